@@ -1,0 +1,5 @@
+pub mod Bits
+pub mod Decode
+pub mod Encodings
+pub mod Reserved
+pub mod Traits

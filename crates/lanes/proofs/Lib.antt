@@ -1,0 +1,11 @@
+pub mod Bounds
+pub mod Known
+pub mod Signed
+pub mod Below
+pub mod Shift
+pub mod Parts
+pub mod Reorder
+pub mod Unclipped
+pub mod AllTrue
+pub mod Applied
+pub mod Sizes

@@ -1,0 +1,6 @@
+pub mod Integer
+pub mod Words
+pub mod Operations
+pub mod Summary
+pub mod Order
+pub mod Width
