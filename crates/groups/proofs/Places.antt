@@ -18,7 +18,8 @@ use Rattle.lanes.specs.declared.Size.the-variants.{Byte, Half, Word}
 use Rattle.lanes.specs.Words.{MarkedWord, push, none, wordFrom}
 use Rattle.lanes.specs.Operations.{laneOp, widthOf, wordOp}
 use Rattle.lanes.specs.Width.{laneOf}
-use Rattle.groups.specs.Places.{numberAt, AtPlace}
+use Rattle.lanes.specs.Numbers.{numberAt}
+use Rattle.groups.specs.Places.{AtPlace}
 use Rattle.groups.proofs.Same.{_&_}
 
 abbrev pub Fit : List ℕ → Type 0

@@ -6,7 +6,7 @@ use Rattle.groups.specs.declared.FourLanes.{FourLanes}
 use Rattle.groups.specs.declared.Short.{Short}
 use Rattle.lanes.specs.declared.Op.{Op}
 use Rattle.lanes.specs.declared.Size.the-variants.{Half}
-use Rattle.groups.specs.Places.{numberAt}
+use Rattle.lanes.specs.Numbers.{numberAt}
 use Rattle.groups.specs.Shorts.{asLane, IsShort}
 use Rattle.groups.proofs.Places.{laneAt}
 

@@ -3,30 +3,18 @@ use mathlib.Core.Path.{_≡_}
 use mathlib.Core.Bool.{cond}
 use mathlib.Core.List.{List}
 use Prim.Native.Nat.{ℕ, _+_, _*_, _^_, _<_}
-use lib.ListN.{getD}
 use Rattle.lanes.specs.declared.Operands.{Operands}
 use Rattle.lanes.specs.declared.Op.{Op}
 use Rattle.lanes.specs.declared.Size.{Size}
-use Rattle.lanes.specs.declared.Size.the-variants.{Byte, Half, Word}
-use Rattle.lanes.specs.Words.{wordFrom}
+use Rattle.lanes.specs.declared.Size.the-variants.{Byte, Half}
 use Rattle.lanes.specs.Operations.{widthOf}
+use Rattle.lanes.specs.Numbers.{bytesIn, numberAt}
 use Rattle.lanes.specs.Width.{InLane, laneOf}
 use Rattle.groups.specs.declared.Four.{Four}
 use Rattle.groups.specs.declared.Fours.{Fours}
 use Rattle.groups.specs.declared.Halves.{Halves}
 use Rattle.groups.specs.declared.Bytes.{Bytes}
 use Rattle.groups.specs.declared.FourLanes.{FourLanes}
-
-abbrev pub bytesIn : Size → ℕ
-bytesIn Byte = 1
-bytesIn Half = 2
-bytesIn Word = 4
-
--- the number of the lane of v from byte k
-unfoldable pub numberAt : Size → List ℕ → ℕ → ℕ
-numberAt Byte v k = getD v k 0
-numberAt Half v k = getD v k 0 * 2 ^ 8 + getD v (k + 1) 0
-numberAt Word v k = wordFrom v k
 
 pub record FourIn (w m : ℕ) (o : Fours) : Type 0 where
   pub in0 : InLane w m (o .l0)

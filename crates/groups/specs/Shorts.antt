@@ -11,7 +11,7 @@ use Rattle.lanes.specs.declared.Op.{Op}
 use Rattle.lanes.specs.declared.Size.the-variants.{Half}
 use Rattle.lanes.specs.Operations.{laneOp}
 use Rattle.lanes.specs.Width.{InLane}
-use Rattle.groups.specs.Places.{numberAt}
+use Rattle.lanes.specs.Numbers.{numberAt}
 
 -- r has the halves of v
 pub record EightAt (v : List ℕ) (r : Eight) : Type 0 where

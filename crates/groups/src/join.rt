@@ -17,7 +17,7 @@ use lanes::Marked;
 use lanes::Op;
 use lanes::Size;
 
-fn mark(clipped: bool) -> u32
+pub fn mark(clipped: bool) -> u32
     ensures { λ r. ⌜ (r ≡ cond clipped 1 0) × (r < 2) ⌝ }
 {
     if clipped { 1 } else { 0 }
@@ -29,7 +29,7 @@ fn four_marks(c0: bool, c1: bool, c2: bool, c3: bool) -> u32
     mark(c0) + 2 * mark(c1) + 4 * mark(c2) + 8 * mark(c3)
 }
 
-fn marks(r: FourLanes) -> u32
+pub fn marks(r: FourLanes) -> u32
     ensures { λ v. ⌜ (v ≡ marksOfFour r) × (v < 16) ⌝ }
 {
     four_marks(r.l0.clipped, r.l1.clipped, r.l2.clipped, r.l3.clipped)

@@ -14,7 +14,7 @@ use Rattle.lanes.specs.Integer.{signed, bitsOf, clamp, modulo, saturated
 use Rattle.lanes.specs.Operations.{laneOp}
 use Rattle.lanes.specs.Width.{InLane, laneOf}
 
-bits-lt : {m : ℕ} (z : ℤ) → 0 < m → bitsOf m z < m
+pub bits-lt : {m : ℕ} (z : ℤ) → 0 < m → bitsOf m z < m
 bits-lt (pos n) h = mod-lt n h
 bits-lt {m} (negsuc n) h = omega (arith, mod-lt n h)
 

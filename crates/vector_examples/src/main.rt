@@ -1,47 +1,6 @@
 // Runs every word-wise instruction on four sets of operands, and document 01's examples that concern them, and prints what each gives.
-use lanes::Marked;
-
-// A digit, in hex.
-fn digit(n: u8) -> u8 {
-    let d = n % 16;
-    if d < 10 { 48 + d } else { 87 + d }
-}
-
-fn byte(b: u8) {
-    let two = [digit(b / 16), digit(b)];
-    io::write_all(1, &two);
-}
-
-fn show(name: &[u8], v: [u8; 16]) {
-    io::write_all(1, name);
-    io::write_all(1, b" ");
-    byte(v[0]);
-    byte(v[1]);
-    byte(v[2]);
-    byte(v[3]);
-    byte(v[4]);
-    byte(v[5]);
-    byte(v[6]);
-    byte(v[7]);
-    byte(v[8]);
-    byte(v[9]);
-    byte(v[10]);
-    byte(v[11]);
-    byte(v[12]);
-    byte(v[13]);
-    byte(v[14]);
-    byte(v[15]);
-    io::write_all(1, b"\n");
-}
-
-fn marked(name: &[u8], r: Marked) {
-    let bytes = r.bytes;
-    show(name, bytes);
-    io::write_all(1, b" m");
-    byte((r.marks / 256 % 256) as u8);
-    byte((r.marks % 256) as u8);
-    io::write_all(1, b"\n");
-}
+use hexlines::marked;
+use hexlines::show;
 
 fn group_0(a: [u8; 16], b: [u8; 16], c: [u8; 16], i: u8) {
     show(b"vaddubm", vector::vaddubm(a, b));

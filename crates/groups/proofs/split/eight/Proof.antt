@@ -1,6 +1,6 @@
 -- `groups::split::eight` meets its contract.
 -- Assumes nothing.
-use Rattle.groups.specs.Places.{numberAt}
+use Rattle.lanes.specs.Numbers.{numberAt}
 use borrow.Author.Needs.{needs}
 use Rattle.groups.proofs.split.eight.Statement.{statement}
 use Rattle.groups.proofs.split.eight.Tie as tie

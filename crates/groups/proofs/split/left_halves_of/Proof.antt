@@ -1,6 +1,6 @@
 -- `groups::split::left_halves_of` meets its contract.
 -- Assumes nothing.
-use Rattle.groups.specs.Places.{numberAt}
+use Rattle.lanes.specs.Numbers.{numberAt}
 use borrow.Author.Needs.{needs}
 use Rattle.groups.proofs.split.left_halves_of.Statement.{statement}
 use Rattle.groups.proofs.split.left_halves_of.Tie as tie

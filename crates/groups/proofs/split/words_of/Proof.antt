@@ -1,7 +1,7 @@
 -- `groups::split::words_of` meets its contract.
 -- Assumes nothing.
 use Rattle.lanes.specs.Words.{wordFrom}
-use Rattle.groups.specs.Places.{numberAt}
+use Rattle.lanes.specs.Numbers.{numberAt}
 use borrow.Author.Needs.{needs}
 use Rattle.groups.proofs.split.words_of.Statement.{statement}
 use Rattle.groups.proofs.split.words_of.Tie as tie

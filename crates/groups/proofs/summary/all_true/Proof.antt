@@ -1,6 +1,6 @@
 -- `groups::summary::all_true` meets its contract.
 -- Assumes nothing.
-use Rattle.groups.specs.Places.{numberAt}
+use Rattle.lanes.specs.Numbers.{numberAt}
 use borrow.Author.Needs.{needs}
 use Rattle.groups.proofs.summary.all_true.Statement.{statement}
 use Rattle.groups.proofs.summary.all_true.Tie as tie

@@ -1,6 +1,6 @@
 -- `groups::summary::none_true` meets its contract.
 -- Assumes nothing.
-use Rattle.groups.specs.Places.{numberAt}
+use Rattle.lanes.specs.Numbers.{numberAt}
 use borrow.Author.Needs.{needs}
 use Rattle.groups.proofs.summary.none_true.Statement.{statement}
 use Rattle.groups.proofs.summary.none_true.Tie as tie

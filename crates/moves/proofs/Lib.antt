@@ -1,0 +1,3 @@
+pub mod Resized
+pub mod Shifted
+pub mod Summed

@@ -1,0 +1,4 @@
+pub mod Chosen
+pub mod Resized
+pub mod Shifted
+pub mod Summed
