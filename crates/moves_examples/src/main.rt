@@ -56,6 +56,15 @@ fn rotated(a: [u8; 16], n: u8) {
     show(b"rotated right", moves::vperm(a, a, moves::lvsr(n)));
 }
 
+// Document 001, vsr: two registers shifted left by n bits in six instructions, and the left one of the two kept.
+fn doubled(w: [u8; 16], x: [u8; 16], n: u8) {
+    let y = [n; 16];
+    let t1 = moves::vsl(moves::vslo(w, y), y);
+    let t3 = vector::vsububm([0; 16], y);
+    let t2 = moves::vsr(moves::vsro(x, t3), t3);
+    show(b"doubled", vector::vor(t1, t2));
+}
+
 fn on(a: [u8; 16], b: [u8; 16], c: [u8; 16]) {
     chosen(a, b, c);
     resized(a, b);
@@ -395,4 +404,44 @@ fn main() {
     numbered(a, b, 255);
     shifted(a);
     pairs(a, 255);
+    let w = [
+        1,
+        35,
+        69,
+        103,
+        137,
+        171,
+        205,
+        239,
+        254,
+        220,
+        186,
+        152,
+        118,
+        84,
+        50,
+        16,
+    ];
+    let x = [
+        240,
+        225,
+        210,
+        195,
+        180,
+        165,
+        150,
+        135,
+        120,
+        105,
+        90,
+        75,
+        60,
+        45,
+        30,
+        15,
+    ];
+    doubled(w, x, 1);
+    doubled(w, x, 8);
+    doubled(w, x, 37);
+    doubled(w, x, 127);
 }
