@@ -65,6 +65,16 @@ fn doubled(w: [u8; 16], x: [u8; 16], n: u8) {
     show(b"doubled", vector::vor(t1, t2));
 }
 
+// Document 003, "Accessing Unaligned Storage Operands": a quad word at address 11, loaded from the two lines that hold it, and stored into them.
+fn unaligned(high: [u8; 16], low: [u8; 16], s: [u8; 16]) {
+    show(b"loaded", moves::vperm(high, low, moves::lvsl(11)));
+    let p = moves::lvsr(11);
+    let mask = moves::vperm(vector::vspltisb(0), vector::vspltisb(31), p);
+    let t = moves::vperm(s, s, p);
+    show(b"stored high", vector::vsel(high, t, mask));
+    show(b"stored low", vector::vsel(t, low, mask));
+}
+
 fn on(a: [u8; 16], b: [u8; 16], c: [u8; 16]) {
     chosen(a, b, c);
     resized(a, b);
@@ -444,4 +454,23 @@ fn main() {
     doubled(w, x, 8);
     doubled(w, x, 37);
     doubled(w, x, 127);
+    let y = [
+        16,
+        17,
+        18,
+        19,
+        20,
+        21,
+        22,
+        23,
+        24,
+        25,
+        26,
+        27,
+        28,
+        29,
+        30,
+        31,
+    ];
+    unaligned(w, x, y);
 }
