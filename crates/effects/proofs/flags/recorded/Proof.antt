@@ -1,0 +1,20 @@
+-- `effects::flags::recorded` meets its contract.
+-- Assumes nothing.
+use Rattle.effects.specs.Flags.{recordedOf}
+use borrow.Author.Needs.{needs}
+use Rattle.effects.proofs.flags.recorded.Statement.{statement}
+use Rattle.effects.proofs.flags.recorded.Tie as tie
+
+summary-requires : tie.Need-summary-requires
+summary-requires c κs = search needs
+
+returns : tie.Need-returns
+unfolding recordedOf
+returns c = rw ((c .before .if1 .taken), (c .summary .ensures))
+
+returns-2 : tie.Need-returns-2
+unfolding recordedOf
+returns-2 c = rw (c .if1 .left)
+
+pub recorded-spec : {M : Type 1} → statement M
+recorded-spec = tie.close (tie.spec summary-requires returns returns-2)

@@ -1,0 +1,16 @@
+-- `Machine::step` meets its contract.
+use borrow.Author.Needs.{needs}
+use Rattle.machine.proofs.Machine.step.Statement.{statement}
+use Rattle.machine.proofs.Machine.step.Tie as tie
+
+run-requires : tie.Need-run-requires
+run-requires c κs = search needs
+
+same-length : tie.Need-same-length
+same-length c = search needs
+
+returns : tie.Need-returns
+returns c = c .before .before .run .ensures
+
+pub step-spec : {M : Type 1} → statement M
+step-spec = tie.close (tie.spec run-requires same-length returns)
