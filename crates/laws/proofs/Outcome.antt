@@ -1,0 +1,44 @@
+-- ONE OUTCOME: two outcomes that one promise of a run allows are equal. So the step in place and the step by value agree.
+-- Assumes nothing.
+use Prim.Native.Nat.{ℕ}
+use mathlib.Core.Path.{_≡_, refl, sym, ap, _∙_}
+use mathlib.Core.List.{List, [], _∷_}
+use lib.ListN.{getD}
+use Rattle.control.specs.declared.answers.Answer.{Answer}
+use Rattle.control.specs.declared.answers.Answer.the-variants.{Done, Spent, Misplaced, LongCode, BadStart, NoInstruction, Reserved, Outside}
+use Rattle.control.specs.Answers.{numberOf}
+use Rattle.machine.specs.declared.walk.Report.{Report}
+use Rattle.machine.specs.declared.Machine.{Machine}
+use Rattle.machine.specs.Runs.{Out, Gives}
+
+answers : List Answer
+answers = Done ∷ Spent ∷ Misplaced ∷ LongCode ∷ BadStart ∷ NoInstruction ∷ Reserved ∷ Outside ∷ []
+
+back : (a : Answer) → getD answers (numberOf a) Done ≡ a
+unfolding answers
+back Done = refl
+back Spent = refl
+back Misplaced = refl
+back LongCode = refl
+back BadStart = refl
+back NoInstruction = refl
+back Reserved = refl
+back Outside = refl
+
+-- a number is that of one answer
+pub same-answer : (a b : Answer) → numberOf a ≡ numberOf b → a ≡ b
+same-answer a b e = sym (back a) ∙ ap (λ (n : ℕ). getD answers n Done) e ∙ back b
+
+abbrev reportOf : Answer → ℕ → ℕ → Report
+reportOf a count place = record { answer = a; count = count; place = place }
+
+same-report : (r r′ : Report) → r .answer ≡ r′ .answer → r .count ≡ r′ .count → r .place ≡ r′ .place → r ≡ r′
+same-report r r′ a c d =
+    ap (λ (x : Answer). reportOf x (r .count) (r .place)) a
+    ∙ ap (λ (x : ℕ). reportOf (r′ .answer) x (r .place)) c
+    ∙ ap (λ (x : ℕ). reportOf (r′ .answer) (r′ .count) x) d
+
+pub one-outcome : {o : Out} {r r′ : Report} {m m′ : Machine} {mem mem′ : List ℕ} → Gives o r m mem → Gives o r′ m′ mem′ → (r ≡ r′) × (m ≡ m′) × (mem ≡ mem′)
+one-outcome {o} {r} {r′} p q =
+    let a = same-answer (r .answer) (r′ .answer) (p .number ∙ sym (q .number)) in
+    (same-report r r′ a (p .count ∙ sym (q .count)) (p .place ∙ sym (q .place)), p .m ∙ sym (q .m), p .mem ∙ sym (q .mem))
