@@ -246,6 +246,7 @@ impl<'a> Coverage<'a> {
     fn observe_place(&mut self, case: &Case, reply: &Reply) {
         let length = case.code.len() as u64;
         let place = u64::from(case.place);
+        self.kind("code of 0 words", length == 0);
         self.kind("code of 16384 words", length == 16_384);
         self.kind("code of 16385 words", length == 16_385);
         self.kind("place 0", place == 0);
@@ -267,6 +268,7 @@ impl<'a> Coverage<'a> {
         );
         self.kind("allowance one more", left + 1 == allowance);
         self.kind("allowance the most", case.allowance == u32::MAX);
+        self.kind("more than 1000 words completed", reply.count > 1_000);
         let stopped = reply.answer >= 5 && reply.count > 0;
         self.kind("stopped after some words", stopped);
         let just_before = reply.answer == 1

@@ -191,7 +191,7 @@ impl<'a> Generator<'a> {
         }
     }
 
-    /// Words before the place, a place at or beyond the end, or very long code.
+    /// Words before the place, a place at or beyond the end, very long code, or none.
     fn set_place_and_length(&mut self, case: &mut Case) {
         let random = &mut self.random;
         match random.below(256) {
@@ -208,8 +208,11 @@ impl<'a> Generator<'a> {
             46 => repeat(&mut case.code, MOST_CODE_WORDS),
             47 => {
                 repeat(&mut case.code, MOST_WORDS);
-                case.place = MOST_WORDS as u32 - random.below(64);
+                if random.once_in(2) {
+                    case.place = MOST_WORDS as u32 - random.below(64);
+                }
             }
+            48 => case.code.clear(),
             _ => {}
         }
     }
@@ -332,5 +335,39 @@ impl Program {
         if !self.try_push(word) {
             self.code.push(word);
         }
+    }
+}
+
+#[cfg(test)]
+mod tests {
+    use super::*;
+    use crate::coverage::Coverage;
+    use second::batch::MOST_MEMORY_BYTES;
+
+    #[test]
+    fn the_same_seed_gives_the_same_cases() {
+        let catalogue = Catalogue::new();
+        let mut first = Generator::new(&catalogue, 5);
+        let mut second = Generator::new(&catalogue, 5);
+        let mut other = Generator::new(&catalogue, 6);
+        let case = first.case();
+        assert_eq!(case, second.case());
+        assert_ne!(case, other.case());
+    }
+
+    #[test]
+    fn cases_keep_to_the_batch_form_and_can_be_counted() {
+        let catalogue = Catalogue::new();
+        let mut generator = Generator::new(&catalogue, 1);
+        let mut coverage = Coverage::new(&catalogue);
+        for _ in 0..2_000 {
+            let case = generator.case();
+            assert!(case.code.len() <= MOST_CODE_WORDS);
+            assert!(case.memory.len() <= MOST_MEMORY_BYTES);
+            coverage.observe(&case, &case.reply());
+        }
+        let (text, short) = coverage.report();
+        assert!(text.starts_with("cases 2000, "));
+        assert!(!short.is_empty(), "2,000 cases cannot be enough");
     }
 }

@@ -13,7 +13,7 @@ use catalogue::Catalogue;
 use coverage::Coverage;
 use generate::Generator;
 use ours::Ours;
-use second::batch::Case;
+use second::batch::{Case, Reply};
 use std::fs::File;
 use std::io::{self, BufWriter, Write};
 use std::process::ExitCode;
@@ -95,10 +95,10 @@ fn compare(settings: &Settings) -> io::Result<bool> {
             case.write(file)?;
         }
         if let Some(ours) = &mut ours {
-            let agrees = matches!(ours.ask(&case), Ok(reply) if reply == expected);
-            if !agrees {
+            let reply = ours.ask(&case);
+            if !agrees(&expected, &reply) {
                 println!("case {number} of seed {} differs", settings.seed);
-                show_smallest(&catalogue, ours, case);
+                show(&catalogue, ours, case, reply);
                 return Ok(false);
             }
         }
@@ -122,14 +122,21 @@ fn compare(settings: &Settings) -> io::Result<bool> {
     Ok(short.is_empty())
 }
 
-fn show_smallest(catalogue: &Catalogue, ours: &mut Ours, case: Case) {
-    let small = shrink::shrink(
-        case,
-        |case| !matches!(ours.ask(case), Ok(reply) if reply == case.reply()),
-    );
-    print!("{}", report::case(catalogue, &small));
-    print!(
-        "{}",
-        report::difference(&small, &small.reply(), ours.ask(&small))
-    );
+fn agrees(expected: &Reply, reply: &io::Result<Reply>) -> bool {
+    matches!(reply, Ok(reply) if reply == expected)
+}
+
+/// Prints the smallest case that differs when it is asked alone, or else the case itself.
+fn show(catalogue: &Catalogue, ours: &Ours, case: Case, reply: io::Result<Reply>) {
+    let differs = |case: &Case| !agrees(&case.reply(), &ours.ask_alone(case));
+    let (shown, reply) = if differs(&case) {
+        let small = shrink::shrink(case, differs);
+        let reply = ours.ask_alone(&small);
+        (small, reply)
+    } else {
+        println!("asked alone it does not differ: the cases before it matter");
+        (case, reply)
+    };
+    print!("{}", report::case(catalogue, &shown));
+    print!("{}", report::difference(&shown, &shown.reply(), reply));
 }

@@ -35,25 +35,27 @@ impl Ours {
         if reply.is_ok() {
             self.process = Some(process);
         } else {
-            process.end();
+            process.kill();
         }
         reply
     }
 
-    /// Ends the input, and says whether the program then ended well and had said all.
-    pub fn finish(&mut self) -> io::Result<()> {
-        let Some(mut process) = self.process.take() else {
-            return Ok(());
+    /// The reply of a process that is asked this case and no other.
+    pub fn ask_alone(&self, case: &Case) -> io::Result<Reply> {
+        let mut alone = Ours {
+            command: self.command.clone(),
+            process: None,
         };
-        drop(process.input);
-        let more = io::copy(&mut process.out, &mut io::sink())?;
-        let status = process.child.wait()?;
-        match (more, status.success()) {
-            (0, true) => Ok(()),
-            (0, false) => Err(io::Error::other(format!("ended with {status}"))),
-            (more, _) => Err(io::Error::other(format!(
-                "{more} bytes after the last reply"
-            ))),
+        let reply = alone.ask(case)?;
+        alone.finish()?;
+        Ok(reply)
+    }
+
+    /// Ends the input; an error if the program then says more or fails.
+    pub fn finish(&mut self) -> io::Result<()> {
+        match self.process.take() {
+            Some(process) => process.finish(),
+            None => Ok(()),
         }
     }
 }
@@ -84,8 +86,19 @@ impl Process {
         Reply::read(&mut self.out, case.memory.len())
     }
 
+    fn finish(mut self) -> io::Result<()> {
+        drop(self.input);
+        let more = io::copy(&mut self.out, &mut io::sink())?;
+        let status = self.child.wait()?;
+        match (more, status.success()) {
+            (0, true) => Ok(()),
+            (0, false) => Err(io::Error::other(format!("ended with {status}"))),
+            _ => Err(io::Error::other(format!("{more} bytes too many"))),
+        }
+    }
+
     /// Ends a process that failed; that it may be gone already is no matter.
-    fn end(mut self) {
+    fn kill(mut self) {
         let _ = self.child.kill();
         let _ = self.child.wait();
     }

@@ -1,14 +1,14 @@
 //! The smallest case that still shows a difference, by leaving things out one after another.
 
 use second::batch::Case;
-use second::{Machine, Vector};
+use second::{run, Machine, Vector};
 
 /// Leaves out what it can while the case `differs`.
 pub fn shrink(case: Case, mut differs: impl FnMut(&Case) -> bool) -> Case {
     let mut smallest = case;
     loop {
         let before = smallest.clone();
-        for pass in [cut_code, cut_run, cut_memory, cut_machine] {
+        for pass in [cut_code, run_ahead, cut_run, cut_memory, cut_machine] {
             pass(&mut smallest, &mut differs);
         }
         if smallest == before {
@@ -48,6 +48,25 @@ fn cut_code(case: &mut Case, differs: Differs) {
         }
         stretch /= 2;
     }
+}
+
+/// Leaves out the first word and starts from what the second program makes of it.
+fn run_ahead(case: &mut Case, differs: Differs) {
+    while attempt(case, differs, |case| {
+        let (base, place) = (case.base, case.place);
+        let outcome = run(
+            &mut case.machine,
+            &case.code,
+            &mut case.memory,
+            base,
+            place,
+            1,
+        );
+        if outcome.count == 1 {
+            case.code.drain(..outcome.place as usize);
+            case.place = 0;
+        }
+    }) {}
 }
 
 /// A plain place and allowance.
@@ -124,6 +143,19 @@ mod tests {
         assert!(small.memory.is_empty());
         assert_eq!(small.machine.vr[5], Vector::from_quad(0x1100));
         assert_eq!(small.machine.gpr[7], 0);
+    }
+
+    #[test]
+    fn words_that_only_prepare_are_run_and_go() {
+        // addi r1,0,5; lvsl v1,0,r1
+        let case = Case {
+            code: vec![0x3820_0005, 0x7c20_080c],
+            allowance: u32::MAX,
+            ..Case::default()
+        };
+        let needed = |case: &Case| case.reply().state[16] == 5 && !case.code.is_empty();
+        let small = shrink(case, needed);
+        assert_eq!(small.code.len(), 1);
     }
 
     #[test]
