@@ -106,7 +106,9 @@ vector-requires-3 : tie.Need-vector-requires-3
 vector-requires-3 c κs = search needs
 
 store-element-requires : tie.Need-store-element-requires
-store-element-requires c κs = let h = rw ((c .before .before .before .before .o6 .given) .1) at ((c .before .before .before .before .before .before .before .pre) .1) in (h .line .ends, h .within)
+store-element-requires c κs = let h = rw ((c .before .before .before .before .o6 .given) .1) at ((c .before .before .before .before .before .before .before .pre) .1) in
+    let w = h .within in
+    (h .line .ends, omega arith)
 
 returns : tie.Need-returns
 returns c = rw ((c .enum-told .given) .1)
