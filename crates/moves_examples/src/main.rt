@@ -10,8 +10,8 @@ fn chosen(a: [u8; 16], b: [u8; 16], c: [u8; 16]) {
     show(b"vmrglb", moves::vmrglb(a, b));
     show(b"vmrglh", moves::vmrglh(a, b));
     show(b"vmrglw", moves::vmrglw(a, b));
-    show(b"vpkuhum", moves::vpkuhum(a, b));
-    show(b"vpkuwum", moves::vpkuwum(a, b));
+    show(b"vpkuhum", packing::vpkuhum(a, b));
+    show(b"vpkuwum", packing::vpkuwum(a, b));
     show(b"vsl", moves::vsl(a, b));
     show(b"vsr", moves::vsr(a, b));
     show(b"vslo", moves::vslo(a, b));
@@ -20,18 +20,18 @@ fn chosen(a: [u8; 16], b: [u8; 16], c: [u8; 16]) {
 }
 
 fn resized(a: [u8; 16], b: [u8; 16]) {
-    marked(b"vpkuhus", moves::vpkuhus(a, b));
-    marked(b"vpkuwus", moves::vpkuwus(a, b));
-    marked(b"vpkshus", moves::vpkshus(a, b));
-    marked(b"vpkswus", moves::vpkswus(a, b));
-    marked(b"vpkshss", moves::vpkshss(a, b));
-    marked(b"vpkswss", moves::vpkswss(a, b));
-    marked(b"vsum2sws", moves::vsum2sws(a, b));
-    marked(b"vsumsws", moves::vsumsws(a, b));
-    show(b"vupkhsb", moves::vupkhsb(b));
-    show(b"vupkhsh", moves::vupkhsh(b));
-    show(b"vupklsb", moves::vupklsb(b));
-    show(b"vupklsh", moves::vupklsh(b));
+    marked(b"vpkuhus", packing::vpkuhus(a, b));
+    marked(b"vpkuwus", packing::vpkuwus(a, b));
+    marked(b"vpkshus", packing::vpkshus(a, b));
+    marked(b"vpkswus", packing::vpkswus(a, b));
+    marked(b"vpkshss", packing::vpkshss(a, b));
+    marked(b"vpkswss", packing::vpkswss(a, b));
+    marked(b"vsum2sws", packing::vsum2sws(a, b));
+    marked(b"vsumsws", packing::vsumsws(a, b));
+    show(b"vupkhsb", packing::vupkhsb(b));
+    show(b"vupkhsh", packing::vupkhsh(b));
+    show(b"vupklsb", packing::vupklsb(b));
+    show(b"vupklsh", packing::vupklsh(b));
 }
 
 fn numbered(a: [u8; 16], b: [u8; 16], n: u8) {
@@ -101,7 +101,7 @@ fn main() {
     // Document 01: vpkshus 255 and 256.
     marked(
         b"vpkshus",
-        moves::vpkshus(
+        packing::vpkshus(
             [0, 255, 1, 0, 0, 255, 1, 0, 0, 255, 1, 0, 0, 255, 1, 0],
             [0, 255, 1, 0, 0, 255, 1, 0, 0, 255, 1, 0, 0, 255, 1, 0],
         ),
