@@ -2,7 +2,6 @@
 mod merges;
 mod permutes;
 mod shifts;
-mod slides;
 
 pub use merges::vmrghb;
 pub use merges::vmrghh;
@@ -16,8 +15,5 @@ pub use merges::vspltw;
 pub use permutes::lvsl;
 pub use permutes::lvsr;
 pub use permutes::vperm;
-pub use permutes::vsldoi;
-pub use permutes::vslo;
-pub use permutes::vsro;
 pub use shifts::vsl;
 pub use shifts::vsr;

@@ -14,8 +14,8 @@ fn chosen(a: [u8; 16], b: [u8; 16], c: [u8; 16]) {
     show(b"vpkuwum", packing::vpkuwum(a, b));
     show(b"vsl", moves::vsl(a, b));
     show(b"vsr", moves::vsr(a, b));
-    show(b"vslo", moves::vslo(a, b));
-    show(b"vsro", moves::vsro(a, b));
+    show(b"vslo", slides::vslo(a, b));
+    show(b"vsro", slides::vsro(a, b));
     show(b"vperm", moves::vperm(a, b, c));
 }
 
@@ -35,7 +35,7 @@ fn resized(a: [u8; 16], b: [u8; 16]) {
 }
 
 fn numbered(a: [u8; 16], b: [u8; 16], n: u8) {
-    show(b"vsldoi", moves::vsldoi(a, b, n));
+    show(b"vsldoi", slides::vsldoi(a, b, n));
     show(b"vspltb", moves::vspltb(b, n));
     show(b"vsplth", moves::vsplth(b, n));
     show(b"vspltw", moves::vspltw(b, n));
@@ -46,8 +46,8 @@ fn numbered(a: [u8; 16], b: [u8; 16], n: u8) {
 // Document 001, vslo: a pair of shifts by the same count moves the whole register by up to 127 bits.
 fn pairs(a: [u8; 16], n: u8) {
     let count = [n; 16];
-    show(b"left", moves::vsl(moves::vslo(a, count), count));
-    show(b"right", moves::vsr(moves::vsro(a, count), count));
+    show(b"left", moves::vsl(slides::vslo(a, count), count));
+    show(b"right", moves::vsr(slides::vsro(a, count), count));
 }
 
 // Document 001, lvsr: a rotation by bytes.
@@ -59,9 +59,9 @@ fn rotated(a: [u8; 16], n: u8) {
 // Document 001, vsr: two registers shifted left by n bits in six instructions, and the left one of the two kept.
 fn doubled(w: [u8; 16], x: [u8; 16], n: u8) {
     let y = [n; 16];
-    let t1 = moves::vsl(moves::vslo(w, y), y);
+    let t1 = moves::vsl(slides::vslo(w, y), y);
     let t3 = vector::vsububm([0; 16], y);
-    let t2 = moves::vsr(moves::vsro(x, t3), t3);
+    let t2 = moves::vsr(slides::vsro(x, t3), t3);
     show(b"doubled", vector::vor(t1, t2));
 }
 

@@ -1,8 +1,8 @@
--- `moves::permutes::vslo` meets its contract.
+-- `slides::vslo` meets its contract.
 -- Assumes nothing.
 use borrow.Author.Needs.{needs}
-use Rattle.moves.proofs.permutes.vslo.Statement.{statement}
-use Rattle.moves.proofs.permutes.vslo.Tie as tie
+use Rattle.slides.proofs.vslo.Statement.{statement}
+use Rattle.slides.proofs.vslo.Tie as tie
 
 bytes-in-requires : tie.Need-bytes-in-requires
 bytes-in-requires c κs = search needs

@@ -1,8 +1,8 @@
--- `moves::permutes::vsro` meets its contract.
+-- `slides::vsro` meets its contract.
 -- Assumes nothing.
 use borrow.Author.Needs.{needs}
-use Rattle.moves.proofs.permutes.vsro.Statement.{statement}
-use Rattle.moves.proofs.permutes.vsro.Tie as tie
+use Rattle.slides.proofs.vsro.Statement.{statement}
+use Rattle.slides.proofs.vsro.Tie as tie
 
 bytes-in-requires : tie.Need-bytes-in-requires
 bytes-in-requires c κs = search needs

@@ -1,11 +1,11 @@
--- `moves::slides::slide` meets its contract.
+-- `slides::places::slide` meets its contract.
 -- Assumes nothing.
 use Prim.Native.Nat.{ℕ, suc, _≤_}
 use native.Mathlib.Omega.{arith}
 use mathlib.Core.Path.{_≡_}
 use borrow.Author.Needs.{needs}
-use Rattle.moves.proofs.slides.slide.Statement.{statement}
-use Rattle.moves.proofs.slides.slide.Tie as tie
+use Rattle.slides.proofs.places.slide.Statement.{statement}
+use Rattle.slides.proofs.places.slide.Tie as tie
 
 -- a number that is at least k and is not k
 past : {n : ℕ} (k : ℕ) → k ≤ n → (n ≡ k → ⊥) → suc k ≤ n

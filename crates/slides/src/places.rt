@@ -3,7 +3,8 @@ ghost use mathlib.Core.Path.{_≡_};
 ghost use mathlib.Core.List.{_++_};
 ghost use Prim.Native.Nat.{_≤_};
 ghost use lib.ListN.{getD};
-ghost use Rattle.moves.specs.Chosen.{places, slid};
+ghost use Rattle.moves.specs.Chosen.{places};
+ghost use Rattle.slides.specs.Slid.{slid};
 
 fn beside(x: [u8; 8], y: [u8; 8]) -> [u8; 16]
     ensures { λ r. ⌜ r ≡ places 8 0 (λ i. getD x i 0) ++ places 8 0 (λ i. getD y i 0) ⌝ }
