@@ -154,9 +154,12 @@ of-halves g p q ep eq e =
     (halves (ep .is0) (halves (ep .is1) (halves (ep .is2) (halves (ep .is3) (halves (eq .is0) (halves (eq .is1) (halves (eq .is2) (halves (eq .is3) refl))))))))
     (omega (arith, same-marks p ep, same-marks q eq))
 
--- the left byte of a half
+-- the left byte of a half, and the right one
 pub left-fits : {x : ℕ} → x < 65536 → Fits w8 (x / 256)
 left-fits h = record { fits = omega arith }
+
+pub right-fits : (x : ℕ) → Fits w8 (x % 256)
+right-fits x = record { fits = omega arith }
 
 -- the low half of a lane
 pub low-byte : (x : ℕ) {y : ℕ} → y < 256 → y ≡ (x * 2 ^ 8 + y) % 2 ^ 8

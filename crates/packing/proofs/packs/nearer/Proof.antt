@@ -4,14 +4,5 @@ use borrow.Author.Tests.{lt-ltb, le-ltb}
 use Rattle.packing.proofs.packs.nearer.Statement.{statement}
 use Rattle.packing.proofs.packs.nearer.Tie as tie
 
-returns : tie.Need-returns
-returns c = rw (lt-ltb _ _ (c .if1 .taken))
-
-returns-2 : tie.Need-returns-2
-returns-2 c = rw (le-ltb _ _ (c .before .if1 .left), lt-ltb _ _ (c .if2 .taken))
-
-returns-3 : tie.Need-returns-3
-returns-3 c = rw (le-ltb _ _ (c .before .if1 .left), le-ltb _ _ (c .if2 .left))
-
 pub nearer-spec : {M : Type 1} → statement M
-nearer-spec = tie.close (tie.spec returns returns-2 returns-3)
+nearer-spec = tie.close (tie.spec (λ c. rw (lt-ltb _ _ (c .if1 .taken))) (λ c. rw (le-ltb _ _ (c .before .if1 .left), lt-ltb _ _ (c .if2 .taken))) (λ c. rw (le-ltb _ _ (c .before .if1 .left), le-ltb _ _ (c .if2 .left))))

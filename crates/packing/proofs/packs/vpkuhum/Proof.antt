@@ -14,54 +14,6 @@ use borrow.Author.Needs.{needs}
 use Rattle.packing.proofs.packs.vpkuhum.Statement.{statement}
 use Rattle.packing.proofs.packs.vpkuhum.Tie as tie
 
-array-read-t7 : tie.Need-array-read-t7
-array-read-t7 c = search needs
-
-array-read-t10 : tie.Need-array-read-t10
-array-read-t10 c = search needs
-
-array-read-t13 : tie.Need-array-read-t13
-array-read-t13 c = search needs
-
-array-read-t16 : tie.Need-array-read-t16
-array-read-t16 c = search needs
-
-array-read-t19 : tie.Need-array-read-t19
-array-read-t19 c = search needs
-
-array-read-t22 : tie.Need-array-read-t22
-array-read-t22 c = search needs
-
-array-read-t25 : tie.Need-array-read-t25
-array-read-t25 c = search needs
-
-array-read-t28 : tie.Need-array-read-t28
-array-read-t28 c = search needs
-
-array-read-t31 : tie.Need-array-read-t31
-array-read-t31 c = search needs
-
-array-read-t34 : tie.Need-array-read-t34
-array-read-t34 c = search needs
-
-array-read-t37 : tie.Need-array-read-t37
-array-read-t37 c = search needs
-
-array-read-t40 : tie.Need-array-read-t40
-array-read-t40 c = search needs
-
-array-read-t43 : tie.Need-array-read-t43
-array-read-t43 c = search needs
-
-array-read-t46 : tie.Need-array-read-t46
-array-read-t46 c = search needs
-
-array-read-t49 : tie.Need-array-read-t49
-array-read-t49 c = search needs
-
-array-read-t52 : tie.Need-array-read-t52
-array-read-t52 c = search needs
-
 returns : tie.Need-returns
 unfolding vectorOf numberAt modulo
 returns c =
@@ -75,20 +27,20 @@ pub vpkuhum-spec : {M : Type 1} → statement M
 vpkuhum-spec =
     tie.close
     (tie.spec
-    array-read-t7
-    array-read-t10
-    array-read-t13
-    array-read-t16
-    array-read-t19
-    array-read-t22
-    array-read-t25
-    array-read-t28
-    array-read-t31
-    array-read-t34
-    array-read-t37
-    array-read-t40
-    array-read-t43
-    array-read-t46
-    array-read-t49
-    array-read-t52
+    (λ c. search needs)
+    (λ c. search needs)
+    (λ c. search needs)
+    (λ c. search needs)
+    (λ c. search needs)
+    (λ c. search needs)
+    (λ c. search needs)
+    (λ c. search needs)
+    (λ c. search needs)
+    (λ c. search needs)
+    (λ c. search needs)
+    (λ c. search needs)
+    (λ c. search needs)
+    (λ c. search needs)
+    (λ c. search needs)
+    (λ c. search needs)
     returns)

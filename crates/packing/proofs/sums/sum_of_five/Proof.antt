@@ -9,21 +9,6 @@ use borrow.Author.Needs.{needs}
 use Rattle.packing.proofs.sums.sum_of_five.Statement.{statement}
 use Rattle.packing.proofs.sums.sum_of_five.Tie as tie
 
-read-requires : tie.Need-read-requires
-read-requires c κs = search needs
-
-read-requires-2 : tie.Need-read-requires-2
-read-requires-2 c κs = search needs
-
-read-requires-3 : tie.Need-read-requires-3
-read-requires-3 c κs = search needs
-
-read-requires-4 : tie.Need-read-requires-4
-read-requires-4 c κs = search needs
-
-read-requires-5 : tie.Need-read-requires-5
-read-requires-5 c κs = search needs
-
 add-sat-s : tie.Need-add-sat-s
 add-sat-s c = fits w64 (plus (lane w64 (2 ^ 32) (c .before .before .before .before .read .ensures) (omega arith) (omega arith) tt) (lane w64 (2 ^ 32) (c .before .before .before .read2 .ensures) (omega arith) (omega arith) tt)) tt
 
@@ -36,9 +21,6 @@ add-sat-s-3 c = fits w64 (plus (kept w64 (plus (kept w64 (plus (lane w64 (2 ^ 32
 add-sat-s-4 : tie.Need-add-sat-s-4
 add-sat-s-4 c = fits w64 (plus (kept w64 (plus (kept w64 (plus (kept w64 (plus (lane w64 (2 ^ 32) (c .before .before .before .before .read .ensures) (omega arith) (omega arith) tt) (lane w64 (2 ^ 32) (c .before .before .before .read2 .ensures) (omega arith) (omega arith) tt)) tt) (lane w64 (2 ^ 32) (c .before .before .read3 .ensures) (omega arith) (omega arith) tt)) tt) (lane w64 (2 ^ 32) (c .before .read4 .ensures) (omega arith) (omega arith) tt)) tt) (lane w64 (2 ^ 32) (c .read5 .ensures) (omega arith) (omega arith) tt)) tt
 
-sat-s-requires : tie.Need-sat-s-requires
-sat-s-requires c κs = search needs
-
 returns : tie.Need-returns
 returns c =
     let e = kept w64 (plus (kept w64 (plus (kept w64 (plus (kept w64 (plus (lane w64 (2 ^ 32) (c .before .before .before .before .before .read .ensures) (omega arith) (omega arith) tt) (lane w64 (2 ^ 32) (c .before .before .before .before .read2 .ensures) (omega arith) (omega arith) tt)) tt) (lane w64 (2 ^ 32) (c .before .before .before .read3 .ensures) (omega arith) (omega arith) tt)) tt) (lane w64 (2 ^ 32) (c .before .before .read4 .ensures) (omega arith) (omega arith) tt)) tt) (lane w64 (2 ^ 32) (c .before .read5 .ensures) (omega arith) (omega arith) tt)) tt .is in
@@ -48,14 +30,14 @@ pub sum-of-five-spec : {M : Type 1} → statement M
 sum-of-five-spec =
     tie.close
     (tie.spec
-    read-requires
-    read-requires-2
-    read-requires-3
-    read-requires-4
-    read-requires-5
+    (λ c κs. search needs)
+    (λ c κs. search needs)
+    (λ c κs. search needs)
+    (λ c κs. search needs)
+    (λ c κs. search needs)
     add-sat-s
     add-sat-s-2
     add-sat-s-3
     add-sat-s-4
-    sat-s-requires
+    (λ c κs. search needs)
     returns)

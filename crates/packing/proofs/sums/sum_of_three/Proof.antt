@@ -9,23 +9,11 @@ use borrow.Author.Needs.{needs}
 use Rattle.packing.proofs.sums.sum_of_three.Statement.{statement}
 use Rattle.packing.proofs.sums.sum_of_three.Tie as tie
 
-read-requires : tie.Need-read-requires
-read-requires c κs = search needs
-
-read-requires-2 : tie.Need-read-requires-2
-read-requires-2 c κs = search needs
-
-read-requires-3 : tie.Need-read-requires-3
-read-requires-3 c κs = search needs
-
 add-sat-s : tie.Need-add-sat-s
 add-sat-s c = fits w64 (plus (lane w64 (2 ^ 32) (c .before .before .read .ensures) (omega arith) (omega arith) tt) (lane w64 (2 ^ 32) (c .before .read2 .ensures) (omega arith) (omega arith) tt)) tt
 
 add-sat-s-2 : tie.Need-add-sat-s-2
 add-sat-s-2 c = fits w64 (plus (kept w64 (plus (lane w64 (2 ^ 32) (c .before .before .read .ensures) (omega arith) (omega arith) tt) (lane w64 (2 ^ 32) (c .before .read2 .ensures) (omega arith) (omega arith) tt)) tt) (lane w64 (2 ^ 32) (c .read3 .ensures) (omega arith) (omega arith) tt)) tt
-
-sat-s-requires : tie.Need-sat-s-requires
-sat-s-requires c κs = search needs
 
 returns : tie.Need-returns
 returns c =
@@ -36,10 +24,10 @@ pub sum-of-three-spec : {M : Type 1} → statement M
 sum-of-three-spec =
     tie.close
     (tie.spec
-    read-requires
-    read-requires-2
-    read-requires-3
+    (λ c κs. search needs)
+    (λ c κs. search needs)
+    (λ c κs. search needs)
     add-sat-s
     add-sat-s-2
-    sat-s-requires
+    (λ c κs. search needs)
     returns)
