@@ -8,9 +8,10 @@ use Rattle.lanes.specs.declared.Marked.{Marked}
 use Rattle.lanes.specs.declared.Op.the-variants as lane
 use Rattle.lanes.specs.declared.Size.the-variants.{Byte, Half, Word}
 use Rattle.lanes.specs.Operations.{applied}
-use Rattle.moves.specs.Chosen.{mergedHigh, mergedLow, splat, permuted, slid, octetsLeft, octetsRight}
+use Rattle.moves.specs.Chosen.{mergedHigh, mergedLow, splat, permuted}
 use Rattle.moves.specs.Shifted.{shiftedLeft, shiftedRight}
-use Rattle.moves.specs.Summed.{sumOfTwo, sumOfAll}
+use Rattle.packing.specs.Summed.{sumOfTwo, sumOfAll}
+use Rattle.slides.specs.Slid.{slid, octetsLeft, octetsRight}
 use Rattle.vector.specs.Copies.{copies}
 use Rattle.compute.specs.Families.{sizeOf, bySign, unclipped, products, quarterSums, productSums, packsModulo, packsSaturated, unpacksHigh, unpacksLow}
 

@@ -12,7 +12,7 @@ use Rattle.lanes.specs.declared.Size.{Size}
 use Rattle.lanes.specs.declared.Size.the-variants.{Byte, Half, Word}
 use Rattle.lanes.specs.Integer.{signed, modulo, satU, satS}
 use Rattle.lanes.specs.Operations.{applied}
-use Rattle.moves.specs.Resized.{unsigned, packed, unpackedHigh, unpackedLow}
+use Rattle.packing.specs.Resized.{unsigned, packed, unpackedHigh, unpackedLow}
 
 -- the size of a lane of that width
 abbrev pub sizeOf : Width → Size

@@ -510,8 +510,8 @@ pub fn pack_modulo(width: Width, a: [u8; 16], b: [u8; 16]) -> Marked
 {
     match width {
         Width::Byte => bare(a),
-        Width::Half => bare(moves::vpkuhum(a, b)),
-        Width::Word => bare(moves::vpkuwum(a, b)),
+        Width::Half => bare(packing::vpkuhum(a, b)),
+        Width::Word => bare(packing::vpkuwum(a, b)),
     }
 }
 
@@ -520,8 +520,8 @@ pub fn pack_uu(width: Width, a: [u8; 16], b: [u8; 16]) -> Marked
 {
     match width {
         Width::Byte => bare(a),
-        Width::Half => moves::vpkuhus(a, b),
-        Width::Word => moves::vpkuwus(a, b),
+        Width::Half => packing::vpkuhus(a, b),
+        Width::Word => packing::vpkuwus(a, b),
     }
 }
 
@@ -530,8 +530,8 @@ pub fn pack_su(width: Width, a: [u8; 16], b: [u8; 16]) -> Marked
 {
     match width {
         Width::Byte => bare(a),
-        Width::Half => moves::vpkshus(a, b),
-        Width::Word => moves::vpkswus(a, b),
+        Width::Half => packing::vpkshus(a, b),
+        Width::Word => packing::vpkswus(a, b),
     }
 }
 
@@ -540,8 +540,8 @@ pub fn pack_ss(width: Width, a: [u8; 16], b: [u8; 16]) -> Marked
 {
     match width {
         Width::Byte => bare(a),
-        Width::Half => moves::vpkshss(a, b),
-        Width::Word => moves::vpkswss(a, b),
+        Width::Half => packing::vpkshss(a, b),
+        Width::Word => packing::vpkswss(a, b),
     }
 }
 
@@ -586,8 +586,8 @@ pub fn unpack_high(width: Width, b: [u8; 16]) -> Marked
     ensures { λ r. ⌜ r ≡ unpacksHigh width b ⌝ }
 {
     match width {
-        Width::Byte => bare(moves::vupkhsb(b)),
-        Width::Half => bare(moves::vupkhsh(b)),
+        Width::Byte => bare(packing::vupkhsb(b)),
+        Width::Half => bare(packing::vupkhsh(b)),
         Width::Word => bare(b),
     }
 }
@@ -596,8 +596,8 @@ pub fn unpack_low(width: Width, b: [u8; 16]) -> Marked
     ensures { λ r. ⌜ r ≡ unpacksLow width b ⌝ }
 {
     match width {
-        Width::Byte => bare(moves::vupklsb(b)),
-        Width::Half => bare(moves::vupklsh(b)),
+        Width::Byte => bare(packing::vupklsb(b)),
+        Width::Half => bare(packing::vupklsh(b)),
         Width::Word => bare(b),
     }
 }

@@ -1,3 +1,1 @@
-pub mod Resized
 pub mod Shifted
-pub mod Summed

@@ -39,23 +39,6 @@ byteOf a b k = cond (ltb k 16) (getD a k 0) (getD b (k - 16) 0)
 abbrev pub permuted : List ℕ → List ℕ → List ℕ → List ℕ
 permuted a b c = places 16 0 (λ i. byteOf a b (getD c i 0 % 32))
 
--- sixteen bytes of a followed by b, from byte n
-abbrev pub slid : List ℕ → List ℕ → ℕ → List ℕ
-slid a b n = places 16 0 (λ i. byteOf a b (n + i))
-
-abbrev pub zeros : List ℕ
-zeros = places 16 0 (λ i. 0)
-
--- the number of bytes in bits 121-124 of b
-abbrev pub octets : List ℕ → ℕ
-octets b = getD b 15 0 / 8 % 16
-
-abbrev pub octetsLeft : List ℕ → List ℕ → List ℕ
-octetsLeft a b = slid a zeros (octets b)
-
-abbrev pub octetsRight : List ℕ → List ℕ → List ℕ
-octetsRight a b = slid zeros a (16 - octets b)
-
 -- the patterns for the low four bits of an address
 abbrev pub patternLeft : ℕ → List ℕ
 patternLeft s = places 16 0 (λ i. s % 16 + i)

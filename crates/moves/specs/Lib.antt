@@ -1,4 +1,2 @@
 pub mod Chosen
-pub mod Resized
 pub mod Shifted
-pub mod Summed

@@ -1,12 +1,7 @@
-// The instructions that carry lanes across words, on vectors of 16 bytes.
-mod marks;
+// The instructions that choose bytes or bits of registers, on vectors of 16 bytes.
 mod merges;
-mod packs;
 mod permutes;
 mod shifts;
-mod slides;
-mod sums;
-mod unpacks;
 
 pub use merges::vmrghb;
 pub use merges::vmrghh;
@@ -17,25 +12,8 @@ pub use merges::vmrglw;
 pub use merges::vspltb;
 pub use merges::vsplth;
 pub use merges::vspltw;
-pub use packs::vpkshss;
-pub use packs::vpkshus;
-pub use packs::vpkswss;
-pub use packs::vpkswus;
-pub use packs::vpkuhum;
-pub use packs::vpkuhus;
-pub use packs::vpkuwum;
-pub use packs::vpkuwus;
 pub use permutes::lvsl;
 pub use permutes::lvsr;
 pub use permutes::vperm;
-pub use permutes::vsldoi;
-pub use permutes::vslo;
-pub use permutes::vsro;
 pub use shifts::vsl;
 pub use shifts::vsr;
-pub use sums::vsum2sws;
-pub use sums::vsumsws;
-pub use unpacks::vupkhsb;
-pub use unpacks::vupkhsh;
-pub use unpacks::vupklsb;
-pub use unpacks::vupklsh;

@@ -1,8 +1,7 @@
-// Bytes of one vector followed by another: permutations and shifts by whole bytes, and the patterns that choose them.
+// Bytes of one vector followed by another that are named by a third, and the patterns that name them.
 ghost use mathlib.Core.Path.{_≡_};
-ghost use Prim.Native.Nat.{_%_, _<_};
-ghost use Rattle.moves.specs.Chosen.{byteOf, permuted, slid, octets, octetsLeft, octetsRight, patternLeft, patternRight};
-use crate::slides::slide;
+ghost use Prim.Native.Nat.{_%_};
+ghost use Rattle.moves.specs.Chosen.{byteOf, permuted, patternLeft, patternRight};
 
 // The byte of a followed by b that the low five bits of k name.
 fn named(a: &[u8; 16], b: &[u8; 16], k: u8) -> u8
@@ -12,52 +11,34 @@ fn named(a: &[u8; 16], b: &[u8; 16], k: u8) -> u8
     if i < 16 { a[i] } else { b[i - 16] }
 }
 
-pub fn vperm(a: [u8; 16], b: [u8; 16], c: [u8; 16]) -> [u8; 16]
-    ensures { λ r. ⌜ r ≡ permuted a b c ⌝ }
+// The bytes that c names; a and b are lent once for all of them.
+fn chosen(a: &[u8; 16], b: &[u8; 16], c: [u8; 16]) -> [u8; 16]
+    ensures { λ r. ⌜ r ≡ permuted (now (a .entry)) (now (b .entry)) c ⌝ }
 {
     [
-        named(&a, &b, c[0]),
-        named(&a, &b, c[1]),
-        named(&a, &b, c[2]),
-        named(&a, &b, c[3]),
-        named(&a, &b, c[4]),
-        named(&a, &b, c[5]),
-        named(&a, &b, c[6]),
-        named(&a, &b, c[7]),
-        named(&a, &b, c[8]),
-        named(&a, &b, c[9]),
-        named(&a, &b, c[10]),
-        named(&a, &b, c[11]),
-        named(&a, &b, c[12]),
-        named(&a, &b, c[13]),
-        named(&a, &b, c[14]),
-        named(&a, &b, c[15]),
+        named(a, b, c[0]),
+        named(a, b, c[1]),
+        named(a, b, c[2]),
+        named(a, b, c[3]),
+        named(a, b, c[4]),
+        named(a, b, c[5]),
+        named(a, b, c[6]),
+        named(a, b, c[7]),
+        named(a, b, c[8]),
+        named(a, b, c[9]),
+        named(a, b, c[10]),
+        named(a, b, c[11]),
+        named(a, b, c[12]),
+        named(a, b, c[13]),
+        named(a, b, c[14]),
+        named(a, b, c[15]),
     ]
 }
 
-pub fn vsldoi(a: [u8; 16], b: [u8; 16], count: u8) -> [u8; 16]
-    ensures { λ r. ⌜ r ≡ slid a b (count % 16) ⌝ }
+pub fn vperm(a: [u8; 16], b: [u8; 16], c: [u8; 16]) -> [u8; 16]
+    ensures { λ r. ⌜ r ≡ permuted a b c ⌝ }
 {
-    slide(a, b, (count % 16) as usize)
-}
-
-// The number of bytes in bits 121-124 of b.
-fn bytes_in(b: [u8; 16]) -> usize
-    ensures { λ r. ⌜ (r ≡ octets b) × (r < 16) ⌝ }
-{
-    (b[15] / 8 % 16) as usize
-}
-
-pub fn vslo(a: [u8; 16], b: [u8; 16]) -> [u8; 16]
-    ensures { λ r. ⌜ r ≡ octetsLeft a b ⌝ }
-{
-    slide(a, [0u8; 16], bytes_in(b))
-}
-
-pub fn vsro(a: [u8; 16], b: [u8; 16]) -> [u8; 16]
-    ensures { λ r. ⌜ r ≡ octetsRight a b ⌝ }
-{
-    slide([0u8; 16], a, 16 - bytes_in(b))
+    chosen(&a, &b, c)
 }
 
 // For the low four bits s of an address.

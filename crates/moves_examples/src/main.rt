@@ -10,32 +10,32 @@ fn chosen(a: [u8; 16], b: [u8; 16], c: [u8; 16]) {
     show(b"vmrglb", moves::vmrglb(a, b));
     show(b"vmrglh", moves::vmrglh(a, b));
     show(b"vmrglw", moves::vmrglw(a, b));
-    show(b"vpkuhum", moves::vpkuhum(a, b));
-    show(b"vpkuwum", moves::vpkuwum(a, b));
+    show(b"vpkuhum", packing::vpkuhum(a, b));
+    show(b"vpkuwum", packing::vpkuwum(a, b));
     show(b"vsl", moves::vsl(a, b));
     show(b"vsr", moves::vsr(a, b));
-    show(b"vslo", moves::vslo(a, b));
-    show(b"vsro", moves::vsro(a, b));
+    show(b"vslo", slides::vslo(a, b));
+    show(b"vsro", slides::vsro(a, b));
     show(b"vperm", moves::vperm(a, b, c));
 }
 
 fn resized(a: [u8; 16], b: [u8; 16]) {
-    marked(b"vpkuhus", moves::vpkuhus(a, b));
-    marked(b"vpkuwus", moves::vpkuwus(a, b));
-    marked(b"vpkshus", moves::vpkshus(a, b));
-    marked(b"vpkswus", moves::vpkswus(a, b));
-    marked(b"vpkshss", moves::vpkshss(a, b));
-    marked(b"vpkswss", moves::vpkswss(a, b));
-    marked(b"vsum2sws", moves::vsum2sws(a, b));
-    marked(b"vsumsws", moves::vsumsws(a, b));
-    show(b"vupkhsb", moves::vupkhsb(b));
-    show(b"vupkhsh", moves::vupkhsh(b));
-    show(b"vupklsb", moves::vupklsb(b));
-    show(b"vupklsh", moves::vupklsh(b));
+    marked(b"vpkuhus", packing::vpkuhus(a, b));
+    marked(b"vpkuwus", packing::vpkuwus(a, b));
+    marked(b"vpkshus", packing::vpkshus(a, b));
+    marked(b"vpkswus", packing::vpkswus(a, b));
+    marked(b"vpkshss", packing::vpkshss(a, b));
+    marked(b"vpkswss", packing::vpkswss(a, b));
+    marked(b"vsum2sws", packing::vsum2sws(a, b));
+    marked(b"vsumsws", packing::vsumsws(a, b));
+    show(b"vupkhsb", packing::vupkhsb(b));
+    show(b"vupkhsh", packing::vupkhsh(b));
+    show(b"vupklsb", packing::vupklsb(b));
+    show(b"vupklsh", packing::vupklsh(b));
 }
 
 fn numbered(a: [u8; 16], b: [u8; 16], n: u8) {
-    show(b"vsldoi", moves::vsldoi(a, b, n));
+    show(b"vsldoi", slides::vsldoi(a, b, n));
     show(b"vspltb", moves::vspltb(b, n));
     show(b"vsplth", moves::vsplth(b, n));
     show(b"vspltw", moves::vspltw(b, n));
@@ -46,8 +46,8 @@ fn numbered(a: [u8; 16], b: [u8; 16], n: u8) {
 // Document 001, vslo: a pair of shifts by the same count moves the whole register by up to 127 bits.
 fn pairs(a: [u8; 16], n: u8) {
     let count = [n; 16];
-    show(b"left", moves::vsl(moves::vslo(a, count), count));
-    show(b"right", moves::vsr(moves::vsro(a, count), count));
+    show(b"left", moves::vsl(slides::vslo(a, count), count));
+    show(b"right", moves::vsr(slides::vsro(a, count), count));
 }
 
 // Document 001, lvsr: a rotation by bytes.
@@ -59,9 +59,9 @@ fn rotated(a: [u8; 16], n: u8) {
 // Document 001, vsr: two registers shifted left by n bits in six instructions, and the left one of the two kept.
 fn doubled(w: [u8; 16], x: [u8; 16], n: u8) {
     let y = [n; 16];
-    let t1 = moves::vsl(moves::vslo(w, y), y);
+    let t1 = moves::vsl(slides::vslo(w, y), y);
     let t3 = vector::vsububm([0; 16], y);
-    let t2 = moves::vsr(moves::vsro(x, t3), t3);
+    let t2 = moves::vsr(slides::vsro(x, t3), t3);
     show(b"doubled", vector::vor(t1, t2));
 }
 
@@ -101,7 +101,7 @@ fn main() {
     // Document 01: vpkshus 255 and 256.
     marked(
         b"vpkshus",
-        moves::vpkshus(
+        packing::vpkshus(
             [0, 255, 1, 0, 0, 255, 1, 0, 0, 255, 1, 0, 0, 255, 1, 0],
             [0, 255, 1, 0, 0, 255, 1, 0, 0, 255, 1, 0, 0, 255, 1, 0],
         ),

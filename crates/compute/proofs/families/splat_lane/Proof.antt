@@ -4,55 +4,19 @@ use borrow.Author.Needs.{needs}
 use Rattle.compute.proofs.families.splat_lane.Statement.{statement}
 use Rattle.compute.proofs.families.splat_lane.Tie as tie
 
-enum-told : tie.Need-enum-told
-enum-told c = search needs
-
-vspltb-requires : tie.Need-vspltb-requires
-vspltb-requires c κs = search needs
-
-bare-requires : tie.Need-bare-requires
-bare-requires c κs = search needs
-
-enum-told-2 : tie.Need-enum-told-2
-enum-told-2 c = search needs
-
-vsplth-requires : tie.Need-vsplth-requires
-vsplth-requires c κs = search needs
-
-bare-requires-2 : tie.Need-bare-requires-2
-bare-requires-2 c κs = search needs
-
-enum-told-3 : tie.Need-enum-told-3
-enum-told-3 c = search needs
-
-vspltw-requires : tie.Need-vspltw-requires
-vspltw-requires c κs = search needs
-
-bare-requires-3 : tie.Need-bare-requires-3
-bare-requires-3 c κs = search needs
-
-returns : tie.Need-returns
-returns c = rw ((c .before .before .enum-told .given) .1, (c .bare .ensures), (c .before .vspltb .ensures))
-
-returns-2 : tie.Need-returns-2
-returns-2 c = rw ((c .before .before .enum-told2 .given) .1, (c .bare2 .ensures), (c .before .vsplth .ensures))
-
-returns-3 : tie.Need-returns-3
-returns-3 c = rw ((c .before .before .enum-told3 .given) .1, (c .bare3 .ensures), (c .before .vspltw .ensures))
-
 pub splat-lane-spec : {M : Type 1} → statement M
 splat-lane-spec =
     tie.close
     (tie.spec
-    enum-told
-    vspltb-requires
-    bare-requires
-    enum-told-2
-    vsplth-requires
-    bare-requires-2
-    enum-told-3
-    vspltw-requires
-    bare-requires-3
-    returns
-    returns-2
-    returns-3)
+    (λ c. search needs)
+    (λ c κs. tt)
+    (λ c κs. tt)
+    (λ c. search needs)
+    (λ c κs. tt)
+    (λ c κs. tt)
+    (λ c. search needs)
+    (λ c κs. tt)
+    (λ c κs. tt)
+    (λ c. rw ((c .before .before .enum-told .given) .1, (c .bare .ensures), (c .before .vspltb .ensures)))
+    (λ c. rw ((c .before .before .enum-told2 .given) .1, (c .bare2 .ensures), (c .before .vsplth .ensures)))
+    (λ c. rw ((c .before .before .enum-told3 .given) .1, (c .bare3 .ensures), (c .before .vspltw .ensures))))

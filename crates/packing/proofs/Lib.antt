@@ -1,0 +1,2 @@
+pub mod Resized
+pub mod Summed
