@@ -4,3 +4,8 @@ pub mod Completed
 pub mod Continued
 pub mod Outcome
 pub mod Steps
+pub mod Bytes
+pub mod ReorderedLines
+pub mod ReorderedOperations
+pub mod ReorderedOrders
+pub mod Reordered
