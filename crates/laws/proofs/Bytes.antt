@@ -1,10 +1,14 @@
 -- Bytes stay bytes: in a part of a list, in a list with a part replaced, and in what an operation gives.
 -- Assumes nothing.
 use Prim.Native.Nat.{ℕ, zero, suc, _+_, _/_, _%_, _^_, _<_}
+use mathlib.Core.Path.{_≡_, refl}
+use mathlib.Core.Bool.{Bool, true, false, _&&_, false≢true}
 use mathlib.Core.List.{List, [], _∷_}
 use native.Mathlib.Omega.{arith}
 use lib.ListN.{set, take, drop, replicate}
 use lib.Seq.{getD-drop}
+use lib.Dec.{ltb}
+use borrow.Author.Tests.{ltb-true}
 use Rattle.lanes.specs.declared.Op.{Op}
 use Rattle.lanes.specs.declared.Size.{Size}
 use Rattle.lanes.specs.Words.{bytesOf, joined}
@@ -20,6 +24,20 @@ first x l a h (suc i) = h i
 
 none : Bytes []
 none i = omega arith
+
+-- a list that is known
+unfoldable pub small : List ℕ → Bool
+small [] = true
+small (x ∷ l) = ltb x 256 && small l
+
+pub small-bytes : (l : List ℕ) → small l ≡ true → Bytes l
+unfolding small
+small-bytes [] e = none
+small-bytes (x ∷ l) e = let b = both (ltb x 256) (small l) e in first x l (ltb-true x 256 (b .0)) (small-bytes l (b .1))
+  where
+    both : (a b : Bool) → (a && b) ≡ true → (a ≡ true) × (b ≡ true)
+    both true b h = (refl, h)
+    both false b h = absurd (false≢true h)
 
 take-bytes : (n : ℕ) (l : List ℕ) → Bytes l → Bytes (take n l)
 take-bytes zero l h = none

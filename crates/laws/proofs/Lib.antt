@@ -9,3 +9,4 @@ pub mod ReorderedLines
 pub mod ReorderedOperations
 pub mod ReorderedOrders
 pub mod Reordered
+pub mod ReorderedSeen
