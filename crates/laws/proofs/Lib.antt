@@ -10,3 +10,5 @@ pub mod ReorderedOperations
 pub mod ReorderedOrders
 pub mod Reordered
 pub mod ReorderedSeen
+pub mod Unmarked
+pub mod Sat
