@@ -12,3 +12,4 @@ pub mod Reordered
 pub mod ReorderedSeen
 pub mod Unmarked
 pub mod Sat
+pub mod Clipped
