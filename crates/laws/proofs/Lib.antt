@@ -4,3 +4,12 @@ pub mod Completed
 pub mod Continued
 pub mod Outcome
 pub mod Steps
+pub mod Bytes
+pub mod ReorderedLines
+pub mod ReorderedOperations
+pub mod ReorderedOrders
+pub mod Reordered
+pub mod ReorderedSeen
+pub mod Unmarked
+pub mod Sat
+pub mod Clipped
