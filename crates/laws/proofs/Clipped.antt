@@ -19,7 +19,7 @@ use Rattle.lanes.specs.Operations.{lanesIn, wordOp, applied}
 use Rattle.lanes.specs.Order.{Bytes, atPlace}
 use Rattle.lanes.proofs.Unclipped.{unmarked}
 use Rattle.groups.proofs.Places.{Fit, laneAt, in-word, in-halves, in-bytes}
-use Rattle.moves.specs.Resized.{marksOfLanes, count, vectorOf}
+use Rattle.packing.specs.Resized.{marksOfLanes, count, vectorOf}
 use Rattle.laws.specs.Sat.{laneIn}
 
 -- no mark so far, and none for a lane

@@ -13,7 +13,7 @@ use Rattle.lanes.specs.Numbers.{numberAt}
 use Rattle.lanes.specs.Order.{Order}
 use Rattle.lanes.specs.Words.{wordFrom, bytesOf}
 use Rattle.lines.specs.Lines.{part, put}
-use Rattle.moves.specs.Resized.{vectorOf}
+use Rattle.packing.specs.Resized.{vectorOf}
 use Rattle.moves.specs.Shifted.{number}
 use Rattle.compute.specs.Computed.{computed}
 use Rattle.control.specs.Addresses.{orZero, addressOf, itemOf, wellPlaced}
