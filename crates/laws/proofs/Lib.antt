@@ -13,3 +13,4 @@ pub mod ReorderedSeen
 pub mod Unmarked
 pub mod Sat
 pub mod Clipped
+pub mod Examples
