@@ -14,3 +14,5 @@ pub mod Unmarked
 pub mod Sat
 pub mod Clipped
 pub mod Examples
+pub mod SingleInstructions
+pub mod SingleParts
