@@ -1,8 +1,5 @@
 // A run from a machine of zeros, and what it leaves.
-use groups::summary::none_true;
 use machine::Machine;
-use machine::Report;
-use machine::number;
 
 // The bytes 0 to 15.
 pub fn line() -> [u8; 16] {
@@ -83,66 +80,10 @@ fn text(s: &[u8]) {
     io::write_all(1, s);
 }
 
-fn labelled(label: &[u8], n: u32) {
-    text(label);
-    io::print_decimal(1, n as u64);
-}
-
-fn flag(label: &[u8], b: bool) {
-    labelled(label, if b { 1 } else { 0 });
-}
-
-fn digit(n: u8) -> u8 {
-    if n % 2 == 1 { 49 } else { 48 }
-}
-
-fn report(r: Report, m: Machine) {
-    let answer = r.answer;
-    labelled(b"answer ", number(answer));
-    labelled(b" steps ", r.count);
-    labelled(b" place ", r.place);
-    flag(b" sat ", m.sat);
-    flag(b" nj ", m.nj);
-    text(b" cr6 ");
-    let c = m.cr6;
-    let four = [digit(c / 8), digit(c / 4), digit(c / 2), digit(c)];
-    text(&four);
-    text(b"\n");
-}
-
 fn sixteen(label: &[u8], n: usize, x: [u8; 16]) {
     text(label);
     io::print_decimal(1, n as u64);
     hexlines::show(b"", x);
-}
-
-fn vectors(v: [u8; 512]) {
-    let mut n = 0;
-    while n < 32 {
-        let x = lines::vector(&v, n);
-        if !none_true(x) {
-            sixteen(b"v", n, x);
-        }
-        n += 1;
-    }
-}
-
-fn general(n: usize, x: u32) {
-    if 0 < x {
-        text(b"r");
-        io::print_decimal(1, n as u64);
-        text(b" ");
-        io::print_hex(1, x as u64, 8);
-        text(b"\n");
-    }
-}
-
-fn generals(g: [u32; 32]) {
-    let mut n = 0;
-    while n < 32 {
-        general(n, g[n]);
-        n += 1;
-    }
 }
 
 fn memory(mem: &[u8]) {
@@ -167,11 +108,11 @@ pub fn tell(title: &[u8], code: &[u32], mem: &mut [u8], base: u32, place: u32, a
     text(title);
     let how = r.report;
     let after = r.m;
-    report(how, after);
+    printing::report(how, after);
     let v = after.v;
-    vectors(v);
+    printing::vectors(v);
     let g = after.g;
-    generals(g);
+    printing::generals(g);
     memory(mem);
     text(b"\n");
 }
