@@ -16,3 +16,4 @@ pub mod Clipped
 pub mod Examples
 pub mod SingleInstructions
 pub mod SingleParts
+pub mod SingleGroups
