@@ -48,28 +48,21 @@ pub fn add_sat_s(x: u16, y: u16, z: u16) -> Short
     ensures { λ r. ⌜ IsShort Op.AddSatS x y z r ⌝ }
 {
     let o = wide(x, y, z);
-    narrow(Op::AddSatS, x, y, z, o, at_lane::add_sat_s(16, 65536, o))
+    narrow(Op::AddSatS, x, y, z, o, halves::add_sat_s(o))
 }
 
 pub fn sub_sat_s(x: u16, y: u16, z: u16) -> Short
     ensures { λ r. ⌜ IsShort Op.SubSatS x y z r ⌝ }
 {
     let o = wide(x, y, z);
-    narrow(Op::SubSatS, x, y, z, o, at_lane::sub_sat_s(16, 65536, o))
+    narrow(Op::SubSatS, x, y, z, o, halves::sub_sat_s(o))
 }
 
 pub fn mul_high_add(x: u16, y: u16, z: u16) -> Short
     ensures { λ r. ⌜ IsShort Op.MulHighAdd x y z r ⌝ }
 {
     let o = wide(x, y, z);
-    narrow(
-        Op::MulHighAdd,
-        x,
-        y,
-        z,
-        o,
-        at_lane::mul_high_add(16, 65536, o),
-    )
+    narrow(Op::MulHighAdd, x, y, z, o, halves::mul_high_add(o))
 }
 
 pub fn mul_high_round_add(x: u16, y: u16, z: u16) -> Short
@@ -82,7 +75,7 @@ pub fn mul_high_round_add(x: u16, y: u16, z: u16) -> Short
         y,
         z,
         o,
-        at_lane::mul_high_round_add(16, 65536, o),
+        halves::mul_high_round_add(o),
     )
 }
 

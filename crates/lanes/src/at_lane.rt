@@ -289,28 +289,6 @@ pub fn greater_s(w: u64, m: u64, o: Operands) -> Lane
     truth_of(m, read(w, m, o.y) < read(w, m, o.x))
 }
 
-pub fn mul_high_add(w: u64, m: u64, o: Operands) -> Lane
-    requires { ⌜ InLane w m o × (m ≤ 2 ^ 16) ⌝ }
-    ensures { λ r. ⌜ r ≡ laneOf Op.MulHighAdd w m o ⌝ }
-{
-    sat_s(
-        w,
-        m,
-        ((read(w, m, o.x) * read(w, m, o.y)) >> 15) + read(w, m, o.z),
-    )
-}
-
-pub fn mul_high_round_add(w: u64, m: u64, o: Operands) -> Lane
-    requires { ⌜ InLane w m o × (m ≤ 2 ^ 16) ⌝ }
-    ensures { λ r. ⌜ r ≡ laneOf Op.MulHighRoundAdd w m o ⌝ }
-{
-    sat_s(
-        w,
-        m,
-        ((read(w, m, o.x) * read(w, m, o.y) + 16384) >> 15) + read(w, m, o.z),
-    )
-}
-
 pub fn mul_low_add(w: u64, m: u64, o: Operands) -> Lane
     requires { ⌜ InLane w m o × (m ≤ 2 ^ 16) ⌝ }
     ensures { λ r. ⌜ r ≡ laneOf Op.MulLowAdd w m o ⌝ }

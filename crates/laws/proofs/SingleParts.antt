@@ -111,10 +111,6 @@ use Rattle.lanes.proofs.at_lane.greater_u.Kinds as lanes-greater-u-kinds
 use Rattle.lanes.proofs.at_lane.greater_u.Reads as lanes-greater-u
 use Rattle.lanes.proofs.at_lane.greater_s.Kinds as lanes-greater-s-kinds
 use Rattle.lanes.proofs.at_lane.greater_s.Reads as lanes-greater-s
-use Rattle.lanes.proofs.at_lane.mul_high_add.Kinds as lanes-mul-high-add-kinds
-use Rattle.lanes.proofs.at_lane.mul_high_add.Reads as lanes-mul-high-add
-use Rattle.lanes.proofs.at_lane.mul_high_round_add.Kinds as lanes-mul-high-round-add-kinds
-use Rattle.lanes.proofs.at_lane.mul_high_round_add.Reads as lanes-mul-high-round-add
 use Rattle.lanes.proofs.at_lane.mul_low_add.Kinds as lanes-mul-low-add-kinds
 use Rattle.lanes.proofs.at_lane.mul_low_add.Reads as lanes-mul-low-add
 use Rattle.lanes.proofs.at_lane.mul_sum_bytes_u.Kinds as lanes-mul-sum-bytes-u-kinds
@@ -177,6 +173,14 @@ use Rattle.control.proofs.control.Kinds as control-control-kinds
 use Rattle.control.proofs.control.Reads as control-control
 use Rattle.effects.proofs.effect.Kinds as effects-effect-kinds
 use Rattle.effects.proofs.effect.Reads as effects-effect
+use Rattle.halves.proofs.add_sat_s.Kinds as halves-add-sat-s-kinds
+use Rattle.halves.proofs.add_sat_s.Reads as halves-add-sat-s
+use Rattle.halves.proofs.sub_sat_s.Kinds as halves-sub-sat-s-kinds
+use Rattle.halves.proofs.sub_sat_s.Reads as halves-sub-sat-s
+use Rattle.halves.proofs.mul_high_add.Kinds as halves-mul-high-add-kinds
+use Rattle.halves.proofs.mul_high_add.Reads as halves-mul-high-add
+use Rattle.halves.proofs.mul_high_round_add.Kinds as halves-mul-high-round-add-kinds
+use Rattle.halves.proofs.mul_high_round_add.Reads as halves-mul-high-round-add
 use Rattle.laws.proofs.Outcome.{one-outcome}
 use Rattle.laws.specs.Single.{OneResult}
 
@@ -345,12 +349,6 @@ one-lanes-greater-u κs a x y s t p q = p ∙ sym q
 pub one-lanes-greater-s : OneResult 0 lanes-greater-s-kinds.ps lanes-greater-s-kinds.r lanes-greater-s.Post
 one-lanes-greater-s κs a x y s t p q = p ∙ sym q
 
-pub one-lanes-mul-high-add : OneResult 0 lanes-mul-high-add-kinds.ps lanes-mul-high-add-kinds.r lanes-mul-high-add.Post
-one-lanes-mul-high-add κs a x y s t p q = p ∙ sym q
-
-pub one-lanes-mul-high-round-add : OneResult 0 lanes-mul-high-round-add-kinds.ps lanes-mul-high-round-add-kinds.r lanes-mul-high-round-add.Post
-one-lanes-mul-high-round-add κs a x y s t p q = p ∙ sym q
-
 pub one-lanes-mul-low-add : OneResult 0 lanes-mul-low-add-kinds.ps lanes-mul-low-add-kinds.r lanes-mul-low-add.Post
 one-lanes-mul-low-add κs a x y s t p q = p ∙ sym q
 
@@ -422,6 +420,18 @@ one-lanes-sat-u κs a x y s t p q = p ∙ sym q
 
 pub one-lanes-sat-below : OneResult 0 lanes-sat-below-kinds.ps lanes-sat-below-kinds.r lanes-sat-below.Post
 one-lanes-sat-below κs a x y s t p q = p ∙ sym q
+
+pub one-halves-add-sat-s : OneResult 0 halves-add-sat-s-kinds.ps halves-add-sat-s-kinds.r halves-add-sat-s.Post
+one-halves-add-sat-s κs a x y s t p q = p ∙ sym q
+
+pub one-halves-sub-sat-s : OneResult 0 halves-sub-sat-s-kinds.ps halves-sub-sat-s-kinds.r halves-sub-sat-s.Post
+one-halves-sub-sat-s κs a x y s t p q = p ∙ sym q
+
+pub one-halves-mul-high-add : OneResult 0 halves-mul-high-add-kinds.ps halves-mul-high-add-kinds.r halves-mul-high-add.Post
+one-halves-mul-high-add κs a x y s t p q = p ∙ sym q
+
+pub one-halves-mul-high-round-add : OneResult 0 halves-mul-high-round-add-kinds.ps halves-mul-high-round-add-kinds.r halves-mul-high-round-add.Post
+one-halves-mul-high-round-add κs a x y s t p q = p ∙ sym q
 
 pub one-machine-run : OneResult 2 machine-run-kinds.ps machine-run-kinds.r machine-run.Post
 one-machine-run κs a x y s t p q = same-ran x y (one-outcome p q .0) (one-outcome p q .1)
