@@ -1,1 +1,2 @@
 pub mod ByFours
+pub mod DigitByDigit

@@ -1,4 +1,6 @@
-// What the programs read: raw bytes as words.
+// What the programs read: raw bytes as words, and text as numbers.
+pub mod numbers;
+
 ghost use Prim.Native.Nat.{_+_, _*_, _≤_, _<_};
 ghost use mathlib.Core.Path.{_≡_};
 ghost use lib.ListN.{length, getD};

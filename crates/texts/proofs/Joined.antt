@@ -9,7 +9,7 @@ use lib.ListN.{length, getD, set, take, drop, length-append}
 use lib.Seq.{sets, take-all, length-take-le}
 use Rattle.lines.specs.Lines.{part, put}
 use Rattle.lines.proofs.Copying.{copied, all}
-use Rattle.texts.specs.Texts.{glyph, hexOf}
+use Rattle.texts.specs.Texts.{glyph, hexOf, bytesOf, wordBytes}
 use Rattle.texts.specs.Writing.{Adds, Counts}
 
 -- what is put in two parts
@@ -25,7 +25,7 @@ pub counts : (n : ℕ) (l : List ℕ) → n ≤ length l → Counts n l
 counts n l h = (h, sym (length-take-le n l h))
 
 -- no text
-pub nothing : (l : List ℕ) (at : ℕ) → Adds l at [] (at + 2 * 0) l
+pub nothing : (l : List ℕ) (at : ℕ) → Adds l at [] (at + 0) l
 unfolding put
 nothing l at = record { end = refl; buffer = refl }
 
@@ -54,3 +54,17 @@ hex-more (b ∷ l) (suc i) h =
 pub hex-long : (l : List ℕ) → length (hexOf l) ≡ 2 * length l
 hex-long [] = refl
 hex-long (b ∷ l) = let e = hex-long l in omega arith
+
+-- the bytes of one word more
+pub words-more : (l : List ℕ) (i : ℕ) → i < length l → wordBytes (take (i + 1) l) ≡ wordBytes (take i l) ++ bytesOf (getD l i 0)
+unfolding bytesOf
+words-more [] i h = absurd (omega arith)
+words-more (w ∷ l) zero h = refl
+words-more (w ∷ l) (suc i) h =
+    let e : suc i + 1 ≡ suc (i + 1) = omega arith in
+    rw e (ap (λ (x : List ℕ). w / 16777216 ∷ w / 65536 % 256 ∷ w / 256 % 256 ∷ w % 256 ∷ x) (words-more l i (omega arith)))
+
+-- four bytes for each word
+pub words-long : (l : List ℕ) → length (wordBytes l) ≡ 4 * length l
+words-long [] = refl
+words-long (w ∷ l) = let e = words-long l in omega arith

@@ -43,6 +43,11 @@ hexOf (b ∷ bs) = glyph (b / 16) ∷ glyph (b % 16) ∷ hexOf bs
 unfoldable pub bytesOf : ℕ → List ℕ
 bytesOf n = n / 16777216 ∷ n / 65536 % 256 ∷ n / 256 % 256 ∷ n % 256 ∷ []
 
+-- the bytes of words
+abbrev pub wordBytes : List ℕ → List ℕ
+wordBytes [] = []
+wordBytes (w ∷ ws) = w / 16777216 ∷ w / 65536 % 256 ∷ w / 256 % 256 ∷ w % 256 ∷ wordBytes ws
+
 -- "answer "
 abbrev pub answerLabel : List ℕ
 answerLabel = 97 ∷ 110 ∷ 115 ∷ 119 ∷ 101 ∷ 114 ∷ 32 ∷ []

@@ -1,12 +1,13 @@
 // Text added to a buffer at a place; the result is the place after it.
 use crate::digits::bit;
+use crate::digits::bytes;
 use crate::digits::four_bits;
 use crate::digits::ten_digits;
 use crate::digits::two_digits;
 use crate::digits::zeros_before;
 ghost use Prim.Native.Nat.{_+_, _*_, _≤_};
 ghost use lib.ListN.{length};
-ghost use Rattle.texts.specs.Texts.{decimalOf, bitOf, binaryOf, hexOf};
+ghost use Rattle.texts.specs.Texts.{decimalOf, bitOf, binaryOf, hexOf, wordBytes};
 ghost use Rattle.texts.specs.Writing.{Adds, Counts};
 
 pub fn add(out: &mut [u8], at: usize, text: &[u8]) -> usize
@@ -60,4 +61,19 @@ pub fn add_hex(out: &mut [u8], at: usize, bytes: &[u8]) -> usize
         i += 1;
     }
     at + 2 * n
+}
+
+// The bytes of words, the most significant first.
+pub fn add_words(out: &mut [u8], at: usize, words: &[u32]) -> usize
+    requires { ⌜ at + 4 * length (now words) ≤ length (now out) ⌝ }
+    ensures { λ r. ⌜ Adds (now (out .entry)) at (wordBytes (now (words .entry))) r (now (out .exit)) ⌝ }
+{
+    let n = words.len();
+    let mut i = 0;
+    while i < n {
+        let four = bytes(words[i]);
+        add(out, at + 4 * i, &four);
+        i += 1;
+    }
+    at + 4 * n
 }

@@ -1,12 +1,13 @@
-// The lines that the programs print, made in a buffer that is lent: document 01, "Examples to hold against the rules".
+// The lines that the programs print, made in a buffer that is lent, and what they are made of: document 01, "Examples to hold against the rules".
 mod adding;
 mod digits;
 
-use adding::add;
+pub use adding::add;
 use adding::add_bit;
 use adding::add_decimal;
 use adding::add_four_bits;
-use adding::add_hex;
+pub use adding::add_hex;
+pub use adding::add_words;
 ghost use Rattle.texts.specs.Texts.{reportLine, vectorLine, generalLine};
 ghost use Rattle.texts.specs.Writing.{Adds, Counts};
 
