@@ -1,15 +1,16 @@
 // Many runs in one start, for the comparison with another emulator: cases in binary from standard input, a reply for each (docs/TESTING.md).
-mod state;
-
 use libc::STDIN_FILENO;
 use libc::STDOUT_FILENO;
 use machine::Machine;
 use machine::Report;
 use machine::number;
-use state::bytes;
-use state::image_of;
-use state::machine_of;
-use state::word;
+ghost use Prim.Native.Nat.{_<_};
+
+fn size(n: u32) -> usize
+    ensures { λ r. ⌜ r < 4294967296 ⌝ }
+{
+    n as usize
+}
 
 // Standard input to the end of buf; whether it was filled.
 fn filled(buf: &mut [u8]) -> bool {
@@ -17,21 +18,24 @@ fn filled(buf: &mut [u8]) -> bool {
     io::read_full(STDIN_FILENO, buf) == n
 }
 
+fn send(image: &[u8; 660]) {
+    io::write_all(STDOUT_FILENO, image);
+}
+
 fn reply(r: Report, m: Machine, mem: &[u8]) {
     let answer = r.answer;
-    let a = bytes(number(answer));
-    let c = bytes(r.count);
-    let p = bytes(r.place);
-    io::write_all(STDOUT_FILENO, &a);
-    io::write_all(STDOUT_FILENO, &c);
-    io::write_all(STDOUT_FILENO, &p);
-    let image = image_of(m);
-    io::write_all(STDOUT_FILENO, &image);
+    let numbers = [number(answer), r.count, r.place];
+    let mut head = [0u8; 12];
+    texts::add_words(&mut head, 0, &numbers);
+    io::write_all(STDOUT_FILENO, &head);
+    let mut image = [0u8; 660];
+    states::state_of(m, &mut image);
+    send(&image);
     io::write_all(STDOUT_FILENO, mem);
 }
 
 // One case, of which the head is read; whether it was whole.
-fn case(head: [u8; 20], bytes: &mut [u8], code: &mut [u32], mem: &mut [u8]) -> bool {
+fn case(head: [u32; 5], bytes: &mut [u8], code: &mut [u32], mem: &mut [u8]) -> bool {
     let mut image = [0u8; 660];
     if !filled(bytes) {
         return false;
@@ -44,11 +48,9 @@ fn case(head: [u8; 20], bytes: &mut [u8], code: &mut [u32], mem: &mut [u8]) -> b
     }
     let w = reading::words(bytes, code);
     let count = w.count;
-    let m = machine_of(&image);
-    let base = word(head[8], head[9], head[10], head[11]);
-    let place = word(head[12], head[13], head[14], head[15]);
-    let allowance = word(head[16], head[17], head[18], head[19]);
-    let r = m.run(&code[..count], mem, base, place, allowance);
+    let loaded = states::machine_of(&image);
+    let m = loaded.m;
+    let r = m.run(&code[..count], mem, head[2], head[3], head[4]);
     let how = r.report;
     let after = r.m;
     reply(how, after, mem);
@@ -57,12 +59,14 @@ fn case(head: [u8; 20], bytes: &mut [u8], code: &mut [u32], mem: &mut [u8]) -> b
 
 // The next case; whether there was a whole one that the buffers hold.
 fn next(bytes: &mut [u8], code: &mut [u32], memory: &mut [u8]) -> bool {
-    let mut head = [0u8; 20];
-    if !filled(&mut head) {
+    let mut bytes_of_head = [0u8; 20];
+    if !filled(&mut bytes_of_head) {
         return false;
     }
-    let n = word(head[0], head[1], head[2], head[3]) as usize;
-    let m = word(head[4], head[5], head[6], head[7]) as usize;
+    let mut head = [0u32; 5];
+    reading::words(&bytes_of_head, &mut head);
+    let n = size(head[0]);
+    let m = size(head[1]);
     let end = 4 * n;
     if end > bytes.len() {
         return false;

@@ -44,59 +44,26 @@ returns-3 c = search needs
 words-requires : tie.Need-words-requires
 words-requires c κs = search needs
 
+slice-aggregate-machine-of : tie.Need-slice-aggregate-machine-of
+slice-aggregate-machine-of c = search needs
+
 machine-of-requires : tie.Need-machine-of-requires
 machine-of-requires c κs = search needs
-
-array-read-word : tie.Need-array-read-word
-array-read-word c = search needs
-
-array-read-word-2 : tie.Need-array-read-word-2
-array-read-word-2 c = search needs
-
-array-read-word-3 : tie.Need-array-read-word-3
-array-read-word-3 c = search needs
-
-array-read-word-4 : tie.Need-array-read-word-4
-array-read-word-4 c = search needs
-
-word-requires : tie.Need-word-requires
-word-requires c κs = search needs
-
-array-read-word-5 : tie.Need-array-read-word-5
-array-read-word-5 c = search needs
-
-array-read-word-6 : tie.Need-array-read-word-6
-array-read-word-6 c = search needs
-
-array-read-word-7 : tie.Need-array-read-word-7
-array-read-word-7 c = search needs
-
-array-read-word-8 : tie.Need-array-read-word-8
-array-read-word-8 c = search needs
-
-word-requires-2 : tie.Need-word-requires-2
-word-requires-2 c κs = search needs
-
-array-read-word-9 : tie.Need-array-read-word-9
-array-read-word-9 c = search needs
-
-array-read-word-10 : tie.Need-array-read-word-10
-array-read-word-10 c = search needs
-
-array-read-word-11 : tie.Need-array-read-word-11
-array-read-word-11 c = search needs
-
-array-read-word-12 : tie.Need-array-read-word-12
-array-read-word-12 c = search needs
-
-word-requires-3 : tie.Need-word-requires-3
-word-requires-3 c κs = search needs
 
 slice-reshare-prefix-run : tie.Need-slice-reshare-prefix-run
 slice-reshare-prefix-run c = search needs
 
 slice-aggregate-run : tie.Need-slice-aggregate-run
 slice-aggregate-run c = search needs
+
+array-read-run : tie.Need-array-read-run
+array-read-run c = search needs
+
+array-read-run-2 : tie.Need-array-read-run-2
+array-read-run-2 c = search needs
+
+array-read-run-3 : tie.Need-array-read-run-3
+array-read-run-3 c = search needs
 
 run-requires : tie.Need-run-requires
 run-requires c κs = search needs
@@ -105,13 +72,13 @@ reply-requires : tie.Need-reply-requires
 reply-requires c κs = search needs
 
 same-length-6 : tie.Need-same-length-6
-same-length-6 c = (c .before .before .before .before .before .before .before .before .before .before .before .before .before .before .before .before .before .before .before .before .before .before .before .before .before .before .before .before .before .before .before .filled .kept) .0
+same-length-6 c = (c .before .before .before .before .before .before .before .before .before .before .before .before .before .before .before .before .before .before .before .before .before .before .before .before .before .before .before .before .before .filled .kept) .0
 
 same-length-7 : tie.Need-same-length-7
 same-length-7 c = search needs
 
 same-length-8 : tie.Need-same-length-8
-same-length-8 c = (c .before .before .before .before .before .before .run .kept) .1 .1 .0 ∙ (c .before .before .before .before .before .before .before .before .before .before .before .before .before .before .before .before .before .before .before .before .before .before .before .before .before .before .filled2 .kept) .0
+same-length-8 c = (c .before .before .before .before .before .before .run .kept) .1 .1 .0 ∙ (c .before .before .before .before .before .before .before .before .before .before .before .before .before .before .before .before .before .before .before .before .before .before .before .before .filled2 .kept) .0
 
 returns-4 : tie.Need-returns-4
 returns-4 c = search needs
@@ -133,24 +100,13 @@ case-spec =
     same-length-5
     returns-3
     words-requires
+    slice-aggregate-machine-of
     machine-of-requires
-    array-read-word
-    array-read-word-2
-    array-read-word-3
-    array-read-word-4
-    word-requires
-    array-read-word-5
-    array-read-word-6
-    array-read-word-7
-    array-read-word-8
-    word-requires-2
-    array-read-word-9
-    array-read-word-10
-    array-read-word-11
-    array-read-word-12
-    word-requires-3
     slice-reshare-prefix-run
     slice-aggregate-run
+    array-read-run
+    array-read-run-2
+    array-read-run-3
     run-requires
     reply-requires
     same-length-6

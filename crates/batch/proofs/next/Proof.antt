@@ -16,41 +16,26 @@ filled-requires c κs = search needs
 returns : tie.Need-returns
 returns c = search needs
 
-array-read-word : tie.Need-array-read-word
-array-read-word c = search needs
+slice-aggregate-words : tie.Need-slice-aggregate-words
+slice-aggregate-words c = search needs
 
-array-read-word-2 : tie.Need-array-read-word-2
-array-read-word-2 c = search needs
+slice-aggregate-words-2 : tie.Need-slice-aggregate-words-2
+slice-aggregate-words-2 c = search needs
 
-array-read-word-3 : tie.Need-array-read-word-3
-array-read-word-3 c = search needs
+words-requires : tie.Need-words-requires
+words-requires c κs = search needs
 
-array-read-word-4 : tie.Need-array-read-word-4
-array-read-word-4 c = search needs
+array-read-size : tie.Need-array-read-size
+array-read-size c = search needs
 
-word-requires : tie.Need-word-requires
-word-requires c κs = search needs
+size-requires : tie.Need-size-requires
+size-requires c κs = search needs
 
-cast-n : tie.Need-cast-n
-cast-n c = search needs
+array-read-size-2 : tie.Need-array-read-size-2
+array-read-size-2 c = search needs
 
-array-read-word-5 : tie.Need-array-read-word-5
-array-read-word-5 c = search needs
-
-array-read-word-6 : tie.Need-array-read-word-6
-array-read-word-6 c = search needs
-
-array-read-word-7 : tie.Need-array-read-word-7
-array-read-word-7 c = search needs
-
-array-read-word-8 : tie.Need-array-read-word-8
-array-read-word-8 c = search needs
-
-word-requires-2 : tie.Need-word-requires-2
-word-requires-2 c κs = search needs
-
-cast-m : tie.Need-cast-m
-cast-m c = search needs
+size-requires-2 : tie.Need-size-requires-2
+size-requires-2 c κs = search needs
 
 mul-end : tie.Need-mul-end
 mul-end c = search needs
@@ -65,13 +50,13 @@ slice-relend-prefix-case : tie.Need-slice-relend-prefix-case
 slice-relend-prefix-case c = search needs
 
 slice-aggregate-case : tie.Need-slice-aggregate-case
-slice-aggregate-case c = sym (length-take-le _ (c .before .before .before .before .before .before .before .before .before .before .before .before .args .bytes .now) (omega arith))
+slice-aggregate-case c = sym (length-take-le _ (c .before .before .before .before .before .before .before .before .before .before .before .before .before .before .before .before .args .bytes .now) (omega arith))
 
 slice-relend-prefix-case-2 : tie.Need-slice-relend-prefix-case-2
 slice-relend-prefix-case-2 c = search needs
 
 slice-aggregate-case-2 : tie.Need-slice-aggregate-case-2
-slice-aggregate-case-2 c = sym (length-take-le _ (c .before .before .before .before .before .before .before .before .before .before .before .before .before .before .args .memory .now) (omega arith))
+slice-aggregate-case-2 c = sym (length-take-le _ (c .before .before .before .before .before .before .before .before .before .before .before .before .before .before .before .before .before .before .args .memory .now) (omega arith))
 
 case-requires : tie.Need-case-requires
 case-requires c κs = search needs
@@ -95,18 +80,13 @@ next-spec =
     slice-aggregate-filled
     filled-requires
     returns
-    array-read-word
-    array-read-word-2
-    array-read-word-3
-    array-read-word-4
-    word-requires
-    cast-n
-    array-read-word-5
-    array-read-word-6
-    array-read-word-7
-    array-read-word-8
-    word-requires-2
-    cast-m
+    slice-aggregate-words
+    slice-aggregate-words-2
+    words-requires
+    array-read-size
+    size-requires
+    array-read-size-2
+    size-requires-2
     mul-end
     returns-2
     returns-3
