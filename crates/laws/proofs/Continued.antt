@@ -1,6 +1,6 @@
 -- CONTINUING: a run that used its allowance up, continued where it stopped, ends as one run, with the counts added.
 -- Assumes nothing.
-use Prim.Native.Nat.{ℕ, zero, suc, _+_, _≤_}
+use Prim.Native.Nat.{ℕ, zero, suc, _+_}
 use mathlib.Core.Path.{_≡_, refl, sym, ap, _∙_}
 use mathlib.Core.Bool.{Bool, true, false}
 use mathlib.Core.List.{List}
@@ -13,7 +13,6 @@ use Rattle.decode.specs.Bits.{pick}
 use Rattle.control.specs.declared.answers.Answer.{Answer}
 use Rattle.control.specs.declared.answers.Answer.the-variants.{Done, Spent, Misplaced, LongCode, BadStart}
 use Rattle.control.specs.Addresses.{wellPlaced}
-use Rattle.control.specs.Answers.{numberOf}
 use Rattle.control.specs.Orders.{refuses, refusalOf}
 use Rattle.machine.specs.declared.Machine.{Machine}
 use Rattle.machine.specs.Runs.{State, Out, starts, stops, orderAt, runs, runOf}

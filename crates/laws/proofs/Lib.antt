@@ -1,8 +1,10 @@
 pub mod Kept
+pub mod Told
 pub mod Refusals
 pub mod Completed
 pub mod Continued
 pub mod Outcome
+pub mod Answers
 pub mod Steps
 pub mod Bytes
 pub mod ReorderedLines
@@ -13,7 +15,9 @@ pub mod ReorderedSeen
 pub mod Unmarked
 pub mod Sat
 pub mod Clipped
+pub mod Exact
 pub mod Examples
 pub mod SingleInstructions
 pub mod SingleParts
 pub mod SingleGroups
+pub mod SingleBuffers

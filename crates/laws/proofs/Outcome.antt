@@ -1,5 +1,4 @@
--- ONE OUTCOME: two outcomes that one promise of a run allows are equal; so the step in place and the step by value agree. And of the other
--- promises that name a lent buffer, two final contents of it are equal.
+-- ONE OUTCOME: two outcomes that one promise of a run allows are equal; so the step in place and the step by value agree. And the same of control.
 -- Assumes nothing.
 use Prim.Native.Nat.{ℕ}
 use mathlib.Core.Path.{_≡_, refl, sym, ap, _∙_}
@@ -11,12 +10,9 @@ use Rattle.decode.specs.declared.Decoded.{Decoded}
 use Rattle.control.specs.declared.orders.Order.{Order}
 use Rattle.control.specs.Answers.{numberOf}
 use Rattle.control.specs.Orders.{generalOf, Controls}
-use Rattle.effects.specs.declared.flags.Flags.{Flags}
-use Rattle.effects.specs.Effects.{Held, heldOf}
 use Rattle.machine.specs.declared.walk.Report.{Report}
 use Rattle.machine.specs.declared.Machine.{Machine}
 use Rattle.machine.specs.Runs.{Out, Gives}
-use Rattle.texts.specs.Writing.{Adds}
 
 answers : List Answer
 answers = Done ∷ Spent ∷ Misplaced ∷ LongCode ∷ BadStart ∷ NoInstruction ∷ Reserved ∷ Outside ∷ []
@@ -53,12 +49,3 @@ one-outcome {o} {r} {r′} p q =
 -- control: the general registers
 pub one-general : (w : Decoded) (g : List ℕ) (base len : ℕ) (r r′ : Order) (h h′ : List ℕ) → Controls w g base len r h → Controls w g base len r′ h′ → h ≡ h′
 one-general w g base len r r′ h h′ p q = p .general ∙ ap (λ (o : Order). generalOf o (w .d) g) (p .order ∙ sym (q .order)) ∙ sym (q .general)
-
--- data: the vectors and the memory
-pub one-held : (e : Held) (v v′ : List ℕ) (f f′ : Flags) (mem mem′ : List ℕ) → heldOf v f mem ≡ e → heldOf v′ f′ mem′ ≡ e → (v ≡ v′) × (f ≡ f′) × (mem ≡ mem′)
-one-held e v v′ f f′ mem mem′ p q =
-    (ap (λ (h : Held). h .v) (p ∙ sym q), ap (λ (h : Held). h .flags) (p ∙ sym q), ap (λ (h : Held). h .mem) (p ∙ sym q))
-
--- a printed line: the buffer
-pub one-text : (before : List ℕ) (at : ℕ) (text : List ℕ) (r r′ : ℕ) (after after′ : List ℕ) → Adds before at text r after → Adds before at text r′ after′ → after ≡ after′
-one-text before at text r r′ after after′ p q = p .buffer ∙ sym (q .buffer)

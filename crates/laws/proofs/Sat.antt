@@ -9,8 +9,7 @@ use lib.ListN.{length}
 use lib.Dec.{eqb, leb, ltb}
 use Rattle.decode.specs.Bits.{pick}
 use Rattle.decode.specs.declared.Decoded.{Decoded}
-use Rattle.decode.specs.declared.ops.Op.{Op}
-use Rattle.decode.specs.declared.ops.Op.the-variants.{Unknown, AddMod, AddCarry, AddSat, SubMod, SubCarry, SubSat, Max, Min, Average, Rotate, ShiftLeft, ShiftRight, ShiftAlgebraic, ShiftWholeLeft, ShiftWholeRight, ShiftBytesLeft, ShiftBytesRight, And, AndNot, Or, Xor, Nor, FromStatus, ToStatus, MulOdd, MulEven, SumQuarter, SumHalf, SumAll, MergeHigh, MergeLow, Splat, SplatImmediate, PackMod, PackSat, UnpackHigh, UnpackLow, CompareEqual, CompareGreater, MulHighAdd, MulHighRoundAdd, MulLowAdd, MulSum, MulSumMixed, MulSumSat, Select, Permute, ShiftPair, LoadShiftLeft, LoadShiftRight, LoadElement, LoadLine, StoreElement, StoreLine, AddImmediate}
+use Rattle.decode.specs.declared.ops.Op.the-variants.{ToStatus}
 use Rattle.decode.specs.Traits.{canClip}
 use Rattle.control.specs.declared.answers.Answer.{Answer}
 use Rattle.control.specs.declared.answers.Answer.the-variants.{Done, Spent, Misplaced, LongCode, BadStart, NoInstruction, Reserved}
@@ -30,80 +29,8 @@ use Rattle.machine.specs.Runs.{State, Out, flagsIn, starts, stops, wordAt, orde
 use Rattle.laws.specs.Steps.{nextAt, marksOf, setsStatus}
 use Rattle.laws.specs.Sat.{bit127, NoStatus}
 use Rattle.laws.proofs.Steps.{order, word, after, held, ways, effect-sat, step-sat}
+use Rattle.laws.proofs.Told.{setting, status-kind, not-set}
 use Rattle.laws.proofs.Unmarked.{unmarked}
-
--- mtvscr's kind
-abbrev setting : Kind → Bool
-setting Absent = false
-setting Vector = false
-setting GetStatus = false
-setting PutStatus = true
-setting LeftPattern = false
-setting RightPattern = false
-setting (GetElement w) = false
-setting GetLine = false
-setting (PutElement w) = false
-setting PutLine = false
-setting AddScalar = false
-
--- no other instruction is of that kind
-status-kind : (op : Op) → setting (kindOf op) ≡ true → op ≡ ToStatus
-status-kind Unknown h = absurd (false≢true h)
-status-kind (AddMod w) h = absurd (false≢true h)
-status-kind AddCarry h = absurd (false≢true h)
-status-kind (AddSat w s) h = absurd (false≢true h)
-status-kind (SubMod w) h = absurd (false≢true h)
-status-kind SubCarry h = absurd (false≢true h)
-status-kind (SubSat w s) h = absurd (false≢true h)
-status-kind (Max w s) h = absurd (false≢true h)
-status-kind (Min w s) h = absurd (false≢true h)
-status-kind (Average w s) h = absurd (false≢true h)
-status-kind (Rotate w) h = absurd (false≢true h)
-status-kind (ShiftLeft w) h = absurd (false≢true h)
-status-kind (ShiftRight w) h = absurd (false≢true h)
-status-kind (ShiftAlgebraic w) h = absurd (false≢true h)
-status-kind ShiftWholeLeft h = absurd (false≢true h)
-status-kind ShiftWholeRight h = absurd (false≢true h)
-status-kind ShiftBytesLeft h = absurd (false≢true h)
-status-kind ShiftBytesRight h = absurd (false≢true h)
-status-kind And h = absurd (false≢true h)
-status-kind AndNot h = absurd (false≢true h)
-status-kind Or h = absurd (false≢true h)
-status-kind Xor h = absurd (false≢true h)
-status-kind Nor h = absurd (false≢true h)
-status-kind FromStatus h = absurd (false≢true h)
-status-kind ToStatus h = refl
-status-kind (MulOdd w s) h = absurd (false≢true h)
-status-kind (MulEven w s) h = absurd (false≢true h)
-status-kind (SumQuarter w s) h = absurd (false≢true h)
-status-kind SumHalf h = absurd (false≢true h)
-status-kind SumAll h = absurd (false≢true h)
-status-kind (MergeHigh w) h = absurd (false≢true h)
-status-kind (MergeLow w) h = absurd (false≢true h)
-status-kind (Splat w) h = absurd (false≢true h)
-status-kind (SplatImmediate w) h = absurd (false≢true h)
-status-kind (PackMod w) h = absurd (false≢true h)
-status-kind (PackSat w s t) h = absurd (false≢true h)
-status-kind (UnpackHigh w) h = absurd (false≢true h)
-status-kind (UnpackLow w) h = absurd (false≢true h)
-status-kind (CompareEqual w) h = absurd (false≢true h)
-status-kind (CompareGreater w s) h = absurd (false≢true h)
-status-kind MulHighAdd h = absurd (false≢true h)
-status-kind MulHighRoundAdd h = absurd (false≢true h)
-status-kind MulLowAdd h = absurd (false≢true h)
-status-kind (MulSum w s) h = absurd (false≢true h)
-status-kind MulSumMixed h = absurd (false≢true h)
-status-kind (MulSumSat s) h = absurd (false≢true h)
-status-kind Select h = absurd (false≢true h)
-status-kind Permute h = absurd (false≢true h)
-status-kind ShiftPair h = absurd (false≢true h)
-status-kind LoadShiftLeft h = absurd (false≢true h)
-status-kind LoadShiftRight h = absurd (false≢true h)
-status-kind (LoadElement w) h = absurd (false≢true h)
-status-kind LoadLine h = absurd (false≢true h)
-status-kind (StoreElement w) h = absurd (false≢true h)
-status-kind StoreLine h = absurd (false≢true h)
-status-kind AddImmediate h = absurd (false≢true h)
 
 -- what is reached in memory sets no status
 reached-status : (i : Item) (f : ℕ → Order) → ((k : ℕ) → setsStatus (f k) ≡ false) → setsStatus (reached i f) ≡ false
@@ -175,10 +102,6 @@ marks-none (ReadLine at) w h e = refl
 marks-none (WriteLine at) w h e = refl
 marks-none (ReadElement at place bytes) w h e = refl
 marks-none (WriteElement at place bytes) w h e = refl
-
-not-set : (b : Bool) → (b ≡ true → ⊥) → b ≡ false
-not-set true h = absurd (h refl)
-not-set false h = refl
 
 -- an order that is not mtvscr's leaves SAT on
 stays-on : (o : Order) (w : Decoded) (h : Held) → setsStatus o ≡ false → h .flags .sat ≡ true → effectOf o w h .flags .sat ≡ true

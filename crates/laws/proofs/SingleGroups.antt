@@ -1,7 +1,7 @@
 -- ONE OUTCOME of the functions that read lanes, work on four of them and join them: two results that a contract allows are equal.
 -- Assumes nothing.
 use Prim.Native.Nat.{ℕ, _+_, _*_}
-use mathlib.Core.Path.{_≡_, refl, sym, ap, _∙_}
+use mathlib.Core.Path.{_≡_, sym, ap, _∙_}
 use mathlib.Core.Bool.{Bool}
 use mathlib.Core.List.{List}
 use lib.Signed.{mag}

@@ -1,6 +1,6 @@
 -- ONE OUTCOME of each instruction by name: two results that its contract allows are equal.
 -- Assumes nothing.
-use mathlib.Core.Path.{_≡_, refl, sym, ap, _∙_}
+use mathlib.Core.Path.{sym, _∙_}
 use Rattle.vector.proofs.vaddubm.Kinds as vector-vaddubm-kinds
 use Rattle.vector.proofs.vaddubm.Reads as vector-vaddubm
 use Rattle.vector.proofs.vadduhm.Kinds as vector-vadduhm-kinds
@@ -183,6 +183,62 @@ use Rattle.slides.proofs.vslo.Kinds as slides-vslo-kinds
 use Rattle.slides.proofs.vslo.Reads as slides-vslo
 use Rattle.slides.proofs.vsro.Kinds as slides-vsro-kinds
 use Rattle.slides.proofs.vsro.Reads as slides-vsro
+use Rattle.moves.proofs.vmrghb.Kinds as moves-vmrghb-kinds
+use Rattle.moves.proofs.vmrghb.Reads as moves-vmrghb
+use Rattle.moves.proofs.vmrghh.Kinds as moves-vmrghh-kinds
+use Rattle.moves.proofs.vmrghh.Reads as moves-vmrghh
+use Rattle.moves.proofs.vmrghw.Kinds as moves-vmrghw-kinds
+use Rattle.moves.proofs.vmrghw.Reads as moves-vmrghw
+use Rattle.moves.proofs.vmrglb.Kinds as moves-vmrglb-kinds
+use Rattle.moves.proofs.vmrglb.Reads as moves-vmrglb
+use Rattle.moves.proofs.vmrglh.Kinds as moves-vmrglh-kinds
+use Rattle.moves.proofs.vmrglh.Reads as moves-vmrglh
+use Rattle.moves.proofs.vmrglw.Kinds as moves-vmrglw-kinds
+use Rattle.moves.proofs.vmrglw.Reads as moves-vmrglw
+use Rattle.moves.proofs.vspltb.Kinds as moves-vspltb-kinds
+use Rattle.moves.proofs.vspltb.Reads as moves-vspltb
+use Rattle.moves.proofs.vsplth.Kinds as moves-vsplth-kinds
+use Rattle.moves.proofs.vsplth.Reads as moves-vsplth
+use Rattle.moves.proofs.vspltw.Kinds as moves-vspltw-kinds
+use Rattle.moves.proofs.vspltw.Reads as moves-vspltw
+use Rattle.moves.proofs.lvsl.Kinds as moves-lvsl-kinds
+use Rattle.moves.proofs.lvsl.Reads as moves-lvsl
+use Rattle.moves.proofs.lvsr.Kinds as moves-lvsr-kinds
+use Rattle.moves.proofs.lvsr.Reads as moves-lvsr
+use Rattle.moves.proofs.vperm.Kinds as moves-vperm-kinds
+use Rattle.moves.proofs.vperm.Reads as moves-vperm
+use Rattle.moves.proofs.vsl.Kinds as moves-vsl-kinds
+use Rattle.moves.proofs.vsl.Reads as moves-vsl
+use Rattle.moves.proofs.vsr.Kinds as moves-vsr-kinds
+use Rattle.moves.proofs.vsr.Reads as moves-vsr
+use Rattle.packing.proofs.vpkshss.Kinds as packing-vpkshss-kinds
+use Rattle.packing.proofs.vpkshss.Reads as packing-vpkshss
+use Rattle.packing.proofs.vpkshus.Kinds as packing-vpkshus-kinds
+use Rattle.packing.proofs.vpkshus.Reads as packing-vpkshus
+use Rattle.packing.proofs.vpkswss.Kinds as packing-vpkswss-kinds
+use Rattle.packing.proofs.vpkswss.Reads as packing-vpkswss
+use Rattle.packing.proofs.vpkswus.Kinds as packing-vpkswus-kinds
+use Rattle.packing.proofs.vpkswus.Reads as packing-vpkswus
+use Rattle.packing.proofs.vpkuhum.Kinds as packing-vpkuhum-kinds
+use Rattle.packing.proofs.vpkuhum.Reads as packing-vpkuhum
+use Rattle.packing.proofs.vpkuhus.Kinds as packing-vpkuhus-kinds
+use Rattle.packing.proofs.vpkuhus.Reads as packing-vpkuhus
+use Rattle.packing.proofs.vpkuwum.Kinds as packing-vpkuwum-kinds
+use Rattle.packing.proofs.vpkuwum.Reads as packing-vpkuwum
+use Rattle.packing.proofs.vpkuwus.Kinds as packing-vpkuwus-kinds
+use Rattle.packing.proofs.vpkuwus.Reads as packing-vpkuwus
+use Rattle.packing.proofs.vsum2sws.Kinds as packing-vsum2sws-kinds
+use Rattle.packing.proofs.vsum2sws.Reads as packing-vsum2sws
+use Rattle.packing.proofs.vsumsws.Kinds as packing-vsumsws-kinds
+use Rattle.packing.proofs.vsumsws.Reads as packing-vsumsws
+use Rattle.packing.proofs.vupkhsb.Kinds as packing-vupkhsb-kinds
+use Rattle.packing.proofs.vupkhsb.Reads as packing-vupkhsb
+use Rattle.packing.proofs.vupkhsh.Kinds as packing-vupkhsh-kinds
+use Rattle.packing.proofs.vupkhsh.Reads as packing-vupkhsh
+use Rattle.packing.proofs.vupklsb.Kinds as packing-vupklsb-kinds
+use Rattle.packing.proofs.vupklsb.Reads as packing-vupklsb
+use Rattle.packing.proofs.vupklsh.Kinds as packing-vupklsh-kinds
+use Rattle.packing.proofs.vupklsh.Reads as packing-vupklsh
 use Rattle.laws.specs.Single.{OneResult}
 
 pub one-vector-vaddubm : OneResult 0 vector-vaddubm-kinds.ps vector-vaddubm-kinds.r vector-vaddubm.Post
@@ -457,3 +513,87 @@ one-slides-vslo κs a x y s t p q = p ∙ sym q
 
 pub one-slides-vsro : OneResult 0 slides-vsro-kinds.ps slides-vsro-kinds.r slides-vsro.Post
 one-slides-vsro κs a x y s t p q = p ∙ sym q
+
+pub one-moves-vmrghb : OneResult 0 moves-vmrghb-kinds.ps moves-vmrghb-kinds.r moves-vmrghb.Post
+one-moves-vmrghb κs a x y s t p q = p ∙ sym q
+
+pub one-moves-vmrghh : OneResult 0 moves-vmrghh-kinds.ps moves-vmrghh-kinds.r moves-vmrghh.Post
+one-moves-vmrghh κs a x y s t p q = p ∙ sym q
+
+pub one-moves-vmrghw : OneResult 0 moves-vmrghw-kinds.ps moves-vmrghw-kinds.r moves-vmrghw.Post
+one-moves-vmrghw κs a x y s t p q = p ∙ sym q
+
+pub one-moves-vmrglb : OneResult 0 moves-vmrglb-kinds.ps moves-vmrglb-kinds.r moves-vmrglb.Post
+one-moves-vmrglb κs a x y s t p q = p ∙ sym q
+
+pub one-moves-vmrglh : OneResult 0 moves-vmrglh-kinds.ps moves-vmrglh-kinds.r moves-vmrglh.Post
+one-moves-vmrglh κs a x y s t p q = p ∙ sym q
+
+pub one-moves-vmrglw : OneResult 0 moves-vmrglw-kinds.ps moves-vmrglw-kinds.r moves-vmrglw.Post
+one-moves-vmrglw κs a x y s t p q = p ∙ sym q
+
+pub one-moves-vspltb : OneResult 0 moves-vspltb-kinds.ps moves-vspltb-kinds.r moves-vspltb.Post
+one-moves-vspltb κs a x y s t p q = p ∙ sym q
+
+pub one-moves-vsplth : OneResult 0 moves-vsplth-kinds.ps moves-vsplth-kinds.r moves-vsplth.Post
+one-moves-vsplth κs a x y s t p q = p ∙ sym q
+
+pub one-moves-vspltw : OneResult 0 moves-vspltw-kinds.ps moves-vspltw-kinds.r moves-vspltw.Post
+one-moves-vspltw κs a x y s t p q = p ∙ sym q
+
+pub one-moves-lvsl : OneResult 0 moves-lvsl-kinds.ps moves-lvsl-kinds.r moves-lvsl.Post
+one-moves-lvsl κs a x y s t p q = p ∙ sym q
+
+pub one-moves-lvsr : OneResult 0 moves-lvsr-kinds.ps moves-lvsr-kinds.r moves-lvsr.Post
+one-moves-lvsr κs a x y s t p q = p ∙ sym q
+
+pub one-moves-vperm : OneResult 0 moves-vperm-kinds.ps moves-vperm-kinds.r moves-vperm.Post
+one-moves-vperm κs a x y s t p q = p ∙ sym q
+
+pub one-moves-vsl : OneResult 0 moves-vsl-kinds.ps moves-vsl-kinds.r moves-vsl.Post
+one-moves-vsl κs a x y s t p q = p ∙ sym q
+
+pub one-moves-vsr : OneResult 0 moves-vsr-kinds.ps moves-vsr-kinds.r moves-vsr.Post
+one-moves-vsr κs a x y s t p q = p ∙ sym q
+
+pub one-packing-vpkshss : OneResult 0 packing-vpkshss-kinds.ps packing-vpkshss-kinds.r packing-vpkshss.Post
+one-packing-vpkshss κs a x y s t p q = p ∙ sym q
+
+pub one-packing-vpkshus : OneResult 0 packing-vpkshus-kinds.ps packing-vpkshus-kinds.r packing-vpkshus.Post
+one-packing-vpkshus κs a x y s t p q = p ∙ sym q
+
+pub one-packing-vpkswss : OneResult 0 packing-vpkswss-kinds.ps packing-vpkswss-kinds.r packing-vpkswss.Post
+one-packing-vpkswss κs a x y s t p q = p ∙ sym q
+
+pub one-packing-vpkswus : OneResult 0 packing-vpkswus-kinds.ps packing-vpkswus-kinds.r packing-vpkswus.Post
+one-packing-vpkswus κs a x y s t p q = p ∙ sym q
+
+pub one-packing-vpkuhum : OneResult 0 packing-vpkuhum-kinds.ps packing-vpkuhum-kinds.r packing-vpkuhum.Post
+one-packing-vpkuhum κs a x y s t p q = p ∙ sym q
+
+pub one-packing-vpkuhus : OneResult 0 packing-vpkuhus-kinds.ps packing-vpkuhus-kinds.r packing-vpkuhus.Post
+one-packing-vpkuhus κs a x y s t p q = p ∙ sym q
+
+pub one-packing-vpkuwum : OneResult 0 packing-vpkuwum-kinds.ps packing-vpkuwum-kinds.r packing-vpkuwum.Post
+one-packing-vpkuwum κs a x y s t p q = p ∙ sym q
+
+pub one-packing-vpkuwus : OneResult 0 packing-vpkuwus-kinds.ps packing-vpkuwus-kinds.r packing-vpkuwus.Post
+one-packing-vpkuwus κs a x y s t p q = p ∙ sym q
+
+pub one-packing-vsum2sws : OneResult 0 packing-vsum2sws-kinds.ps packing-vsum2sws-kinds.r packing-vsum2sws.Post
+one-packing-vsum2sws κs a x y s t p q = p ∙ sym q
+
+pub one-packing-vsumsws : OneResult 0 packing-vsumsws-kinds.ps packing-vsumsws-kinds.r packing-vsumsws.Post
+one-packing-vsumsws κs a x y s t p q = p ∙ sym q
+
+pub one-packing-vupkhsb : OneResult 0 packing-vupkhsb-kinds.ps packing-vupkhsb-kinds.r packing-vupkhsb.Post
+one-packing-vupkhsb κs a x y s t p q = p ∙ sym q
+
+pub one-packing-vupkhsh : OneResult 0 packing-vupkhsh-kinds.ps packing-vupkhsh-kinds.r packing-vupkhsh.Post
+one-packing-vupkhsh κs a x y s t p q = p ∙ sym q
+
+pub one-packing-vupklsb : OneResult 0 packing-vupklsb-kinds.ps packing-vupklsb-kinds.r packing-vupklsb.Post
+one-packing-vupklsb κs a x y s t p q = p ∙ sym q
+
+pub one-packing-vupklsh : OneResult 0 packing-vupklsh-kinds.ps packing-vupklsh-kinds.r packing-vupklsh.Post
+one-packing-vupklsh κs a x y s t p q = p ∙ sym q

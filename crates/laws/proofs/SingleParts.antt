@@ -1,6 +1,9 @@
 -- ONE OUTCOME of the lanes, the decoder, the parts of the machine, the run and the printed lines: two results that a contract allows are equal.
 -- Assumes nothing.
-use mathlib.Core.Path.{_≡_, refl, sym, ap, _∙_}
+use Prim.Native.Nat.{ℕ}
+use mathlib.Core.Path.{_≡_, sym, ap, _∙_}
+use mathlib.Core.Bool.{Bool}
+use Rattle.reading.specs.declared.Filled.{Filled}
 use Rattle.effects.specs.Effects.{Held}
 use Rattle.machine.specs.declared.Machine.{Machine}
 use Rattle.machine.specs.declared.Ran.{Ran}
@@ -182,6 +185,20 @@ use Rattle.halves.proofs.mul_high_add.Reads as halves-mul-high-add
 use Rattle.halves.proofs.mul_high_round_add.Kinds as halves-mul-high-round-add-kinds
 use Rattle.halves.proofs.mul_high_round_add.Reads as halves-mul-high-round-add
 use Rattle.laws.proofs.Outcome.{one-outcome}
+use Rattle.texts.proofs.add.Kinds as texts-add-kinds
+use Rattle.texts.proofs.add.Reads as texts-add
+use Rattle.texts.proofs.add_hex.Kinds as texts-add-hex-kinds
+use Rattle.texts.proofs.add_hex.Reads as texts-add-hex
+use Rattle.texts.proofs.add_words.Kinds as texts-add-words-kinds
+use Rattle.texts.proofs.add_words.Reads as texts-add-words
+use Rattle.reading.proofs.words.Kinds as reading-words-kinds
+use Rattle.reading.proofs.words.Reads as reading-words
+use Rattle.reading.proofs.numbers.read.Kinds as reading-read-kinds
+use Rattle.reading.proofs.numbers.read.Reads as reading-read
+use Rattle.states.proofs.at_rest.Kinds as states-at-rest-kinds
+use Rattle.states.proofs.at_rest.Reads as states-at-rest
+use Rattle.states.proofs.machine_of.Kinds as states-machine-of-kinds
+use Rattle.states.proofs.machine_of.Reads as states-machine-of
 use Rattle.laws.specs.Single.{OneResult}
 
 abbrev ranOf : Report → Machine → Ran
@@ -189,6 +206,12 @@ ranOf r m = record { report = r; m = m }
 
 same-ran : (x y : Ran) → x .report ≡ y .report → x .m ≡ y .m → x ≡ y
 same-ran x y e f = ap (λ (r : Report). ranOf r (x .m)) e ∙ ap (λ (m : Machine). ranOf (y .report) m) f
+
+abbrev filledOf : Bool → ℕ → Filled
+filledOf good count = record { good = good; count = count }
+
+same-filled : (x y : Filled) → x .good ≡ y .good → x .count ≡ y .count → x ≡ y
+same-filled x y e f = ap (λ (g : Bool). filledOf g (x .count)) e ∙ ap (λ (n : ℕ). filledOf (y .good) n) f
 
 pub one-decode-operation : OneResult 0 decode-operation-kinds.ps decode-operation-kinds.r decode-operation.Post
 one-decode-operation κs a x y s t p q = p ∙ sym q
@@ -453,3 +476,24 @@ one-control-control κs a x y s t p q = p .order ∙ sym (q .order)
 
 pub one-effects-effect : OneResult 2 effects-effect-kinds.ps effects-effect-kinds.r effects-effect.Post
 one-effects-effect κs a x y s t p q = ap (λ (h : Held). h .flags) (p ∙ sym q)
+
+pub one-texts-add : OneResult 2 texts-add-kinds.ps texts-add-kinds.r texts-add.Post
+one-texts-add κs a x y s t p q = p .0 .end ∙ sym (q .0 .end)
+
+pub one-texts-add-hex : OneResult 2 texts-add-hex-kinds.ps texts-add-hex-kinds.r texts-add-hex.Post
+one-texts-add-hex κs a x y s t p q = p .end ∙ sym (q .end)
+
+pub one-texts-add-words : OneResult 2 texts-add-words-kinds.ps texts-add-words-kinds.r texts-add-words.Post
+one-texts-add-words κs a x y s t p q = p .end ∙ sym (q .end)
+
+pub one-reading-words : OneResult 2 reading-words-kinds.ps reading-words-kinds.r reading-words.Post
+one-reading-words κs a x y s t p q = same-filled x y (p .0 .good ∙ sym (q .0 .good)) (p .0 .count ∙ sym (q .0 .count))
+
+pub one-reading-read : OneResult 1 reading-read-kinds.ps reading-read-kinds.r reading-read.Post
+one-reading-read κs a x y s t p q = p ∙ sym q
+
+pub one-states-at-rest : OneResult 0 states-at-rest-kinds.ps states-at-rest-kinds.r states-at-rest.Post
+one-states-at-rest κs a x y s t p q = p ∙ sym q
+
+pub one-states-machine-of : OneResult 1 states-machine-of-kinds.ps states-machine-of-kinds.r states-machine-of.Post
+one-states-machine-of κs a x y s t p q = p ∙ sym q

@@ -10,3 +10,13 @@ use denote.Triple.Clauses.{AtExit}
 abbrev pub OneResult : (n : ℕ) (ps : List (PK n)) (r : RK n) → Out n ps r → Type 0
 OneResult n ps r P =
     (κs : Lfts n) (a : Dens κs ps) (x y : resT r κs .Denot) (s t : AtExit (endedOf n ps r) κs) → P κs a x s → P κs a y t → x ≡ y
+
+-- and what one contract says is left in a lent buffer, in the machine or in the memory, read off the contract by `left`, is the same in both
+abbrev pub OneLeft : (n : ℕ) (ps : List (PK n)) (r : RK n) (P : Out n ps r) (A : Type 0)
+    → ((κs : Lfts n) (a : Dens κs ps) (x : resT r κs .Denot) (s : AtExit (endedOf n ps r) κs) → P κs a x s → A) → Type 0
+OneLeft n ps r P A left =
+    (κs : Lfts n) (a : Dens κs ps) (x y : resT r κs .Denot) (s t : AtExit (endedOf n ps r) κs) (p : P κs a x s) (q : P κs a y t) → left κs a x s p ≡ left κs a y t q
+
+-- what an equation speaks of: its left side
+abbrev pub leftOf : {A : Type 0} {x y : A} → x ≡ y → A
+leftOf {x = x} e = x
