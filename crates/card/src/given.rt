@@ -134,6 +134,31 @@ pub fn value_at(arg: &[u8]) -> usize
     e
 }
 
+fn same_value(one: &[u8], other: &[u8]) -> bool {
+    let p = value_at(one);
+    let q = value_at(other);
+    same(&one[p..], &other[q..])
+}
+
+// Whether what is left goes to two files: two paths that are the same would lose the memory.
+pub fn two_outputs(at: [usize; 7]) -> bool {
+    if at[2] == 0 {
+        return true;
+    }
+    if at[3] == 0 {
+        return true;
+    }
+    let mut one = io::buffer();
+    let n = os::arg(at[2], &mut one);
+    let mut other = io::buffer();
+    let k = os::arg(at[3], &mut other);
+    if same_value(&one[..n], &other[..k]) {
+        complain(&other[..k], b"memory-out names the same file");
+        return false;
+    }
+    true
+}
+
 fn number_in(arg: &[u8]) -> Value {
     let from = value_at(arg);
     match read(&arg[from..]) {

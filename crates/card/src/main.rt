@@ -7,6 +7,7 @@ use files::complain;
 use given::Numbers;
 use given::arguments;
 use given::numbers_at;
+use given::two_outputs;
 use loading::memory_at;
 use loading::save;
 use loading::save_state;
@@ -79,6 +80,9 @@ fn main() {
         return;
     }
     let at = g.at;
+    if !two_outputs(at) {
+        return;
+    }
     let s = numbers_at(at);
     if s.good {
         with_arguments(at, s);

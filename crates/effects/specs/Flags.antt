@@ -1,6 +1,6 @@
 -- NJ, SAT and CR6. Document 01, "Lane rules": the instructions that can set SAT, the compares with Rc, mfvscr and mtvscr. Assumes nothing.
 use Prim.Native.Nat.{ℕ, _%_}
-use mathlib.Core.Bool.{Bool, true, false, cond, _||_, _&&_}
+use mathlib.Core.Bool.{Bool, true, false, cond, _||_}
 use mathlib.Core.List.{List, [], _∷_}
 use lib.ListN.{getD}
 use lib.Dec.{eqb, ltb}

@@ -1,10 +1,8 @@
 -- Lanes side by side: the bytes and the marks of the vector that they make. Assumes nothing.
 use mathlib.Core.Path.{_≡_, refl, _∙_}
-use mathlib.Core.Bool.{cond}
 use mathlib.Core.List.{List, [], _∷_}
 use Prim.Native.Nat.{ℕ, _+_, _*_, _/_, _%_, _^_, _<_}
 use native.Mathlib.Omega.{arith}
-use Rattle.lanes.specs.declared.Lane.{Lane}
 use Rattle.groups.specs.declared.FourLanes.{FourLanes}
 use Rattle.groups.specs.declared.Fours.{Fours}
 use Rattle.lanes.specs.declared.Op.{Op}

@@ -1,7 +1,7 @@
 -- A half that is stored is the lane that was computed, and the lane at its place. Assumes nothing.
 use mathlib.Core.Path.{_≡_, sym}
 use mathlib.Core.List.{List}
-use Prim.Native.Nat.{ℕ, _^_}
+use Prim.Native.Nat.{ℕ}
 use Rattle.groups.specs.declared.FourLanes.{FourLanes}
 use Rattle.groups.specs.declared.Short.{Short}
 use Rattle.lanes.specs.declared.Op.{Op}

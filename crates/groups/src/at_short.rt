@@ -1,6 +1,5 @@
 // The hot operations at a half that is read and written as it is stored.
 ghost use mathlib.Core.Path.{_≡_};
-ghost use Prim.Native.Nat.{_^_};
 ghost use Rattle.lanes.specs.Width.{laneOf};
 ghost use Rattle.groups.specs.Shorts.{AreWide, IsShort};
 use crate::Short;

@@ -1,8 +1,7 @@
 // The hot operations at a half, in 32 bits: there the compiler works on eight halves at once, and in 64 bits it does not.
 ghost use mathlib.Core.Path.{_≡_};
-ghost use Prim.Native.Nat.{_^_, _<_};
+ghost use Prim.Native.Nat.{_<_};
 ghost use lib.IntN.{pos, negℤ};
-ghost use lib.Signed.{mag};
 ghost use Rattle.lanes.specs.Integer.{signed, clamp, satS};
 ghost use Rattle.lanes.specs.Width.{InLane, laneOf};
 use lanes::Lane;

@@ -2,12 +2,12 @@
 use mathlib.Core.Path.{_≡_, sym, ap, _∙_}
 use mathlib.Core.List.{List}
 use mathlib.Core.Logic.{_↔_}
-use Prim.Native.Nat.{ℕ, zero, suc, _+_, _*_, _^_, _≤_, _<_}
+use Prim.Native.Nat.{ℕ, _+_, _*_, _^_, _≤_, _<_}
 use native.Mathlib.Nat.{mul-le-mul-right}
 use native.Mathlib.Omega.{arith}
 use lib.Pow.{pow-pos}
 use Rattle.lanes.specs.declared.Marked.{Marked}
-use Rattle.lanes.specs.Words.{MarkedWord, marksOf, joined, wordwise}
+use Rattle.lanes.specs.Words.{MarkedWord, joined, wordwise}
 use Rattle.lanes.specs.Order.{Bytes, Order, reordered, atPlace}
 use Rattle.lanes.proofs.Reorder.{four, reorder, every}
 

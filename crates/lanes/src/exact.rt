@@ -1,6 +1,6 @@
 // Exact integers of a lane, on i64, and the ways in which a lane takes one: m is 2 to the lane's width w.
 ghost use mathlib.Core.Path.{_≡_};
-ghost use Prim.Native.Nat.{_+_, _*_, _/_, _%_, _^_, _<_, _≤_};
+ghost use Prim.Native.Nat.{_+_, _*_, _/_, _%_, _^_, _<_};
 ghost use lib.IntN.{pos, _-ℤ_};
 ghost use lib.Signed.{mag};
 ghost use Rattle.lanes.specs.Integer.{signed, bitsOf, clamp, modulo, satU, satS, plain, truth};

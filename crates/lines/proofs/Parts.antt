@@ -7,7 +7,7 @@ use native.Mathlib.Omega.{arith}
 use native.Mathlib.Nat.{add-zero}
 use lib.ListN.{length, getD, set, take, drop, length-drop, getD-replicate}
 use lib.Seq.{length-take-le, take-append-seam, take-set-le, drop-set-lt, drop-set-add, drop-at, getD-take, getD-drop, sets-eq, length-sets}
-use Rattle.lines.specs.Lines.{part, sixteen, put, zeros, loadedOf, storedOf}
+use Rattle.lines.specs.Lines.{part, sixteen, put, zeros, loadedOf, storedOf, Counts}
 
 -- what is put keeps the length, wherever it is put
 pub put-long : (l : List ℕ) (o : ℕ) (x : List ℕ) → length (put l o x) ≡ length l
@@ -100,3 +100,7 @@ module _ (l : List ℕ) (o e n : ℕ) (inMemory : o + 16 ≤ length l) (inLine :
   loaded-after k h b =
       let long = part-long l (o + e) n (omega arith) in
       at-after zeros e (part l (o + e) n) k (omega arith) ∙ getD-replicate 16 k 0 0 b
+
+-- a number that counts elements at the start
+pub counts : (n : ℕ) (l : List ℕ) → n ≤ length l → Counts n l
+counts n l h = (h, sym (length-take-le n l h))

@@ -1,8 +1,9 @@
 -- A part of a list, and a list with a part of it replaced; document 01, "Addresses": what an element load and an element store leave.
 -- Assumes nothing.
-use Prim.Native.Nat.{ℕ, _+_}
+use Prim.Native.Nat.{ℕ, _+_, _≤_}
+use mathlib.Core.Path.{_≡_}
 use mathlib.Core.List.{List}
-use lib.ListN.{take, drop, replicate}
+use lib.ListN.{length, take, drop, replicate}
 use lib.Seq.{sets}
 
 -- the n elements from place o on
@@ -27,3 +28,7 @@ loadedOf l o e n = put zeros e (part l (o + e) n)
 -- the list l after a store of the n bytes at place e of the register x into the line at place o: they have their place, and the others stay
 abbrev pub storedOf : List ℕ → ℕ → ℕ → ℕ → List ℕ → List ℕ
 storedOf l o e n x = put l (o + e) (part x e n)
+
+-- n counts elements at the start of a list; the second part follows from the first
+abbrev pub Counts : ℕ → List ℕ → Type 0
+Counts n l = (n ≤ length l) × (n ≡ length (take n l))

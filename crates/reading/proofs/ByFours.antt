@@ -1,15 +1,15 @@
--- Words of bytes, four by four: how many there are, the one at each place, and what a number of them at the start of a list counts.
+-- Words of bytes, four by four: how many there are, and the one at each place.
 -- Assumes nothing.
 use Prim.Native.Nat.{ℕ, zero, suc, _+_, _*_, _/_, _≤_, _<_}
 use mathlib.Core.Path.{_≡_, refl, sym, ap, _∙_}
 use mathlib.Core.List.{List, [], _∷_}
 use native.Mathlib.Omega.{arith}
 use lib.ListN.{length, getD}
-use lib.Seq.{length-take-le, take-all}
+use lib.Seq.{take-all}
 use mathlib.Core.Bool.{true, false}
 use Rattle.lines.specs.Lines.{part, put}
 use Rattle.lines.proofs.Copying.{copied, all}
-use Rattle.reading.specs.Words.{wordOf, wordsOf, whole, Fills, Counts}
+use Rattle.reading.specs.Words.{wordOf, wordsOf, whole, Fills}
 
 pub words-long : (l : List ℕ) → length (wordsOf l) ≡ length l / 4
 unfolding wordsOf
@@ -34,9 +34,6 @@ word-at (a ∷ b ∷ c ∷ d ∷ rest) (suc i) h =
     let e2 : 4 * suc i + 2 ≡ suc (suc (suc (suc (4 * i + 2)))) = omega arith in
     let e3 : 4 * suc i + 3 ≡ suc (suc (suc (suc (4 * i + 3)))) = omega arith in
     rw (e1, e2, e3, e0) (word-at rest i (omega arith))
-
-pub counts : (n : ℕ) (l : List ℕ) → n ≤ length l → Counts n l
-counts n l h = (h, sym (length-take-le n l h))
 
 -- a list in which every word was copied
 pub read-all : (b d x : List ℕ) → length b / 4 ≤ length d → x ≡ copied d 0 (wordsOf b) 0 (length (wordsOf b)) → x ≡ put d 0 (wordsOf b)

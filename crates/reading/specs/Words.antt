@@ -1,10 +1,10 @@
 -- Raw bytes as words, the most significant byte first: document 01, "Examples to hold against the rules", its last paragraph.
 -- Assumes nothing.
-use Prim.Native.Nat.{ℕ, _+_, _*_, _/_, _%_, _≤_}
-use mathlib.Core.Bool.{Bool, true, false, cond}
+use Prim.Native.Nat.{ℕ, _+_, _*_, _/_, _%_}
+use mathlib.Core.Bool.{Bool, false, cond}
 use mathlib.Core.Path.{_≡_}
 use mathlib.Core.List.{List, [], _∷_}
-use lib.ListN.{length, take}
+use lib.ListN.{length}
 use lib.Dec.{eqb, leb}
 use Rattle.lines.specs.Lines.{put}
 use Rattle.reading.specs.declared.Filled.{Filled}
@@ -30,7 +30,3 @@ pub record Fills (bytes before : List ℕ) (r : Filled) (after : List ℕ) : Typ
   pub good : r .good ≡ whole bytes before
   pub count : r .count ≡ cond (whole bytes before) (length bytes / 4) 0
   pub code : after ≡ cond (whole bytes before) (put before 0 (wordsOf bytes)) before
-
--- n counts words at the start of a list; the second part follows from the first
-abbrev pub Counts : ℕ → List ℕ → Type 0
-Counts n l = (n ≤ length l) × (n ≡ length (take n l))

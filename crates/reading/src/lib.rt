@@ -1,10 +1,10 @@
 // What the programs read: raw bytes as words, and text as numbers.
 pub mod numbers;
 
-ghost use Prim.Native.Nat.{_+_, _*_, _≤_, _<_};
+ghost use Prim.Native.Nat.{_+_, _*_, _<_};
 ghost use mathlib.Core.Path.{_≡_};
-ghost use lib.ListN.{length, getD};
-ghost use Rattle.reading.specs.Words.{wordOf, Fills, Counts};
+ghost use Rattle.reading.specs.Words.{wordOf, Fills};
+ghost use Rattle.lines.specs.Lines.{Counts};
 
 // Whether bytes were whole words, and how many.
 pub struct Filled {

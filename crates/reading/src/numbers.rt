@@ -1,7 +1,6 @@
 // Text as numbers of 32 bits.
 ghost use Prim.Native.Nat.{_+_, _*_, _≤_, _<_};
 ghost use mathlib.Core.Path.{_≡_};
-ghost use lib.ListN.{length};
 ghost use Rattle.reading.specs.Numbers.{digitOf, cappedOf, someDigits, isHex, readOf};
 
 pub enum Number {

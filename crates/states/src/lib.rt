@@ -1,4 +1,7 @@
 // The machine as bytes of a file, and back.
+use effects::Flags;
+use effects::from_status;
+use effects::status;
 use lines::load;
 use machine::Machine;
 use reading::words;
@@ -6,15 +9,12 @@ use texts::add;
 use texts::add_words;
 ghost use Prim.Native.Nat.{_+_, _*_, _/_, _%_, _≤_};
 ghost use mathlib.Core.Path.{_≡_};
-ghost use mathlib.Core.Bool.{cond};
 ghost use mathlib.Core.List.{_++_};
 ghost use lib.ListN.{length};
 ghost use Rattle.lines.specs.Lines.{part};
-ghost use Rattle.effects.specs.Flags.{statusOf};
-ghost use Rattle.machine.specs.Runs.{flagsIn};
 ghost use Rattle.reading.specs.Words.{wordsOf};
 ghost use Rattle.texts.specs.Texts.{wordBytes};
-ghost use Rattle.states.specs.States.{conditionOf, stateOf, fromState, atRest, loadedOf};
+ghost use Rattle.states.specs.States.{stateOf, fromState, atRest, loadedOf};
 
 // A machine, and whether there were bytes for it.
 pub struct Loaded {
@@ -60,12 +60,18 @@ fn taken(bytes: &[u8]) -> Machine
     let x = load(bytes, 512);
     let v = vectors(bytes);
     let g = generals(bytes);
+    let rest = Flags {
+        nj: false,
+        sat: false,
+        cr6: bytes[659] / 16,
+    };
+    let f = from_status(x, rest);
     Machine {
         v: v,
         g: g,
-        nj: x[13] % 2 == 1,
-        sat: x[15] % 2 == 1,
-        cr6: bytes[659] / 16,
+        nj: f.nj,
+        sat: f.sat,
+        cr6: f.cr6,
     }
 }
 
@@ -79,20 +85,6 @@ pub fn machine_of(bytes: &[u8]) -> Loaded
     }
     let m = at_rest();
     Loaded { good: false, m: m }
-}
-
-fn bit(b: bool) -> u8
-    ensures { λ r. ⌜ r ≡ cond b 1 0 ⌝ }
-{
-    if b { 1 } else { 0 }
-}
-
-fn status(m: Machine) -> [u8; 16]
-    ensures { λ r. ⌜ r ≡ statusOf (flagsIn m) ⌝ }
-{
-    let nj = bit(m.nj);
-    let sat = bit(m.sat);
-    [0, 0, 0, 0, 0, 0, 0, 0, 0, 0, 0, 0, 0, nj, 0, sat]
 }
 
 fn join(v: [u8; 512], x: [u8; 16], g: [u32; 32], condition: [u8; 4], out: &mut [u8; 660])
@@ -110,7 +102,12 @@ pub fn state_of(m: Machine, out: &mut [u8; 660])
 {
     let v = m.v;
     let g = m.g;
-    let x = status(m);
+    let flags = Flags {
+        nj: m.nj,
+        sat: m.sat,
+        cr6: m.cr6,
+    };
+    let x = status(flags);
     let condition = [0, 0, 0, m.cr6 % 16 * 16];
     join(v, x, g, condition, out);
 }

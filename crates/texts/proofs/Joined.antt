@@ -1,16 +1,16 @@
 -- Text that is added to a text: the two as one; and what a loop has added.
 -- Assumes nothing.
 use Prim.Native.Nat.{ℕ, zero, suc, _+_, _*_, _/_, _%_, _≤_, _<_}
-use mathlib.Core.Path.{_≡_, refl, sym, ap, _∙_}
+use mathlib.Core.Path.{_≡_, refl, ap, _∙_}
 use mathlib.Core.List.{List, [], _∷_, _++_}
 use native.Mathlib.Omega.{arith}
 use native.Mathlib.Nat.{add-zero}
-use lib.ListN.{length, getD, set, take, drop, length-append}
-use lib.Seq.{sets, take-all, length-take-le}
+use lib.ListN.{length, getD, set, take, length-append}
+use lib.Seq.{sets, take-all}
 use Rattle.lines.specs.Lines.{part, put}
 use Rattle.lines.proofs.Copying.{copied, all}
 use Rattle.texts.specs.Texts.{glyph, hexOf, bytesOf, wordBytes}
-use Rattle.texts.specs.Writing.{Adds, Counts}
+use Rattle.texts.specs.Writing.{Adds}
 
 -- what is put in two parts
 put-append : (x l y : List ℕ) (o : ℕ) → put (put l o x) (o + length x) y ≡ put l o (x ++ y)
@@ -19,10 +19,6 @@ put-append [] l y o = ap (λ (k : ℕ). sets l k y) (add-zero o)
 put-append (a ∷ x) l y o =
     let e : o + length (a ∷ x) ≡ suc o + length x = omega arith in
     ap (λ (k : ℕ). sets (sets (set l o a) (suc o) x) k y) e ∙ put-append x (set l o a) y (suc o)
-
--- a number that counts bytes at the start
-pub counts : (n : ℕ) (l : List ℕ) → n ≤ length l → Counts n l
-counts n l h = (h, sym (length-take-le n l h))
 
 -- no text
 pub nothing : (l : List ℕ) (at : ℕ) → Adds l at [] (at + 0) l

@@ -1,9 +1,9 @@
 -- The lines that the programs print: document 01, "Examples to hold against the rules", its last paragraph. A text is the list of its ASCII codes.
 -- Assumes nothing.
-use Prim.Native.Nat.{ℕ, _+_, _-_, _/_, _%_}
+use Prim.Native.Nat.{ℕ, _+_, _/_, _%_}
 use mathlib.Core.Bool.{Bool, cond}
 use mathlib.Core.List.{List, [], _∷_, _++_}
-use lib.ListN.{drop, getD}
+use lib.ListN.{drop}
 use lib.Dec.{ltb}
 
 -- a digit below 16: `0` to `9`, then `a` to `f`

@@ -8,7 +8,8 @@ use crate::digits::zeros_before;
 ghost use Prim.Native.Nat.{_+_, _*_, _≤_};
 ghost use lib.ListN.{length};
 ghost use Rattle.texts.specs.Texts.{decimalOf, bitOf, binaryOf, hexOf, wordBytes};
-ghost use Rattle.texts.specs.Writing.{Adds, Counts};
+ghost use Rattle.texts.specs.Writing.{Adds};
+ghost use Rattle.lines.specs.Lines.{Counts};
 
 pub fn add(out: &mut [u8], at: usize, text: &[u8]) -> usize
     requires { ⌜ at + length (now text) ≤ length (now out) ⌝ }

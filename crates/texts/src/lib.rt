@@ -9,7 +9,8 @@ use adding::add_four_bits;
 pub use adding::add_hex;
 pub use adding::add_words;
 ghost use Rattle.texts.specs.Texts.{reportLine, vectorLine, generalLine};
-ghost use Rattle.texts.specs.Writing.{Adds, Counts};
+ghost use Rattle.texts.specs.Writing.{Adds};
+ghost use Rattle.lines.specs.Lines.{Counts};
 
 // How a run ended: its number, the words completed, the next place, SAT, NJ and CR6. The result is the line's length.
 pub fn report_line(

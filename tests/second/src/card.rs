@@ -75,6 +75,9 @@ impl Request {
                 _ => return Err(format!("{name}: unknown name")),
             }
         }
+        if request.memory_out.is_some() && request.memory_out == request.state_out {
+            return Err("state-out: the same file as memory-out".into());
+        }
         Ok(request)
     }
 
@@ -266,6 +269,11 @@ mod tests {
         assert!(wrong("memory=/no/such/file").starts_with("/no/such/file: cannot be read"));
         let twice = call(&[kernel.clone(), "base=0".into(), "base=0".into()]);
         assert_eq!(twice.unwrap_err(), "base: given twice");
+        let one_file = call(&[kernel.clone(), "memory-out=x".into(), "state-out=x".into()]);
+        assert_eq!(
+            one_file.unwrap_err(),
+            "state-out: the same file as memory-out"
+        );
     }
 
     #[test]

@@ -1,7 +1,7 @@
 -- `halves::read` meets its contract.
 -- Assumes nothing.
 use Rattle.lanes.proofs.Signed.{by-bias}
-use Rattle.lanes.proofs.Known.{Known, nat, const, minus, fits, kept}
+use Rattle.lanes.proofs.Known.{Known, nat, minus, fits, kept}
 use mir.Syntax.{w32}
 use mir.Val.{toZ}
 use lib.IntN.{pos, _-ℤ_}

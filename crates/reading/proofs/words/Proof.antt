@@ -1,11 +1,12 @@
 -- `reading::words` meets its contract.
 -- Assumes nothing.
 use borrow.Author.Needs.{needs}
-use Rattle.reading.proofs.ByFours.{words-long, word-at, counts, read-all, taken, refused}
+use Rattle.reading.proofs.ByFours.{words-long, word-at, read-all, taken, refused}
+use Rattle.lines.proofs.Parts.{counts}
 use Rattle.reading.specs.Words.{wordsOf}
-use Rattle.lines.proofs.Copying.{copied, none, turn, all}
+use Rattle.lines.proofs.Copying.{copied, none, turn}
 use borrow.Author.Tests.{eq-eqb, ne-eqb, le-leb, lt-leb}
-use lib.ListN.{length, length-set, take}
+use lib.ListN.{length, length-set}
 use native.Mathlib.Nat.{zero-add}
 use native.Mathlib.Omega.{arith}
 use mathlib.Core.Path.{_≡_, refl, sym, _∙_}

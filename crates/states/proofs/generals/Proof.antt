@@ -3,7 +3,7 @@
 use Rattle.states.proofs.Whole.{thirty-two}
 use Rattle.lines.specs.Lines.{part}
 use lib.Seq.{length-take-le}
-use lib.ListN.{length, take, drop, length-drop}
+use lib.ListN.{take, drop, length-drop}
 use native.Mathlib.Omega.{arith}
 use borrow.Author.Needs.{needs}
 use Rattle.states.proofs.generals.Statement.{statement}

@@ -3,7 +3,7 @@
 use Rattle.states.proofs.Whole.{put-all}
 use Rattle.lines.specs.Lines.{part}
 use lib.Seq.{length-take-le}
-use lib.ListN.{length, take, replicate}
+use lib.ListN.{take, replicate}
 use native.Mathlib.Omega.{arith}
 use mathlib.Core.Path.{sym, _∙_}
 use borrow.Author.Needs.{needs}

@@ -7,7 +7,7 @@ use Rattle.lanes.specs.Integer.{saturated, outside}
 use mir.Syntax.{w64}
 use mir.Val.{toZ, ofZ}
 use lib.Signed.{mag}
-use lib.IntN.{ℤ, pos, negℤ, _-ℤ_, +ℤ-idl}
+use lib.IntN.{pos, negℤ, _-ℤ_, +ℤ-idl}
 use Prim.Native.Nat.{ℕ, _+_, _-_, _/_, _^_, _<_}
 use native.Mathlib.Omega.{arith}
 use mathlib.Core.Path.{_≡_, _∙_}

@@ -1,6 +1,7 @@
 -- `texts::adding::add` meets its contract.
 -- Assumes nothing.
-use Rattle.texts.proofs.Joined.{copied-all, counts}
+use Rattle.texts.proofs.Joined.{copied-all}
+use Rattle.lines.proofs.Parts.{counts}
 use Rattle.lines.proofs.Copying.{copied, none, turn}
 use native.Mathlib.Nat.{zero-add}
 use native.Mathlib.Omega.{arith}

@@ -7,7 +7,6 @@ use Rattle.lines.specs.Lines.{put}
 use lib.Seq.{take-all, length-take-le}
 use borrow.Author.Needs.{needs}
 use native.Mathlib.Omega.{arith}
-use mathlib.Core.List.{List}
 use mathlib.Core.Path.{_≡_, refl, sym, ap, _∙_}
 use lib.ListN.{length, take}
 use Prim.Native.Nat.{_+_, _-_, _*_, _≤_}
