@@ -16,9 +16,10 @@ pub struct CardReport {
     pub place: u32,
 }
 
-pub struct Left {
-    pub report: CardReport,
-    pub m: Machine,
+// What a run leaves.
+struct Left {
+    report: CardReport,
+    m: Machine,
 }
 
 // A machine with all registers and bits zero.
