@@ -10,7 +10,8 @@ use walk::steps;
 ghost use mathlib.Core.Path.{_≡_};
 ghost use Rattle.machine.specs.Runs.{runOf, Gives};
 
-// Vector n is bytes 16 n to 16 n + 15 of v. CR6 is a number of four bits.
+// Vector n is bytes 16 n to 16 n + 15 of v. CR6 is a number of four bits. The layout is C's, so that hosts can keep one.
+#[repr(C)]
 pub struct Machine {
     pub v: [u8; 512],
     pub g: [u32; 32],

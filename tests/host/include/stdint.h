@@ -1,0 +1,8 @@
+/* Stands in for C's own header where the kit's compiler has none. */
+#ifndef STDINT_H
+#define STDINT_H
+typedef __UINT8_TYPE__ uint8_t;
+typedef __INT16_TYPE__ int16_t;
+typedef __UINT32_TYPE__ uint32_t;
+typedef __UINT64_TYPE__ uint64_t;
+#endif
