@@ -13,9 +13,11 @@ use Rattle.control.specs.Answers.{numberOf}
 use Rattle.control.specs.Orders.{generalOf, Controls}
 use Rattle.effects.specs.declared.flags.Flags.{Flags}
 use Rattle.effects.specs.Effects.{Held, heldOf}
+use Rattle.lanes.specs.declared.Marked.{Marked}
 use Rattle.machine.specs.declared.walk.Report.{Report}
 use Rattle.machine.specs.declared.Machine.{Machine}
 use Rattle.machine.specs.Runs.{Out, Gives}
+use Rattle.registers.specs.Registers.{Leaves}
 use Rattle.texts.specs.Writing.{Adds}
 
 answers : List Answer
@@ -53,6 +55,10 @@ one-outcome {o} {r} {r′} p q =
 -- control: the general registers
 pub one-general : (w : Decoded) (g : List ℕ) (base len : ℕ) (r r′ : Order) (h h′ : List ℕ) → Controls w g base len r h → Controls w g base len r′ h′ → h ≡ h′
 one-general w g base len r r′ h h′ p q = p .general ∙ ap (λ (o : Order). generalOf o (w .d) g) (p .order ∙ sym (q .order)) ∙ sym (q .general)
+
+-- a vector instruction on registers, and `compute`: the vectors and the marks
+pub one-left : {r : Marked} {d marks marks′ : ℕ} {v after after′ : List ℕ} → Leaves r d v after marks → Leaves r d v after′ marks′ → (after ≡ after′) × (marks ≡ marks′)
+one-left p q = (p .vectors ∙ sym (q .vectors), p .clipped ∙ sym (q .clipped))
 
 -- data: the vectors and the memory
 pub one-held : (e : Held) (v v′ : List ℕ) (f f′ : Flags) (mem mem′ : List ℕ) → heldOf v f mem ≡ e → heldOf v′ f′ mem′ ≡ e → (v ≡ v′) × (f ≡ f′) × (mem ≡ mem′)

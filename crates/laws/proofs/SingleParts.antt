@@ -229,8 +229,8 @@ one-decode-position-bound κs a x y s t p q = p ∙ sym q
 pub one-decode-reserved : OneResult 0 decode-reserved-kinds.ps decode-reserved-kinds.r decode-reserved.Post
 one-decode-reserved κs a x y s t p q = p ∙ sym q
 
-pub one-compute-compute : OneResult 0 compute-compute-kinds.ps compute-compute-kinds.r compute-compute.Post
-one-compute-compute κs a x y s t p q = p ∙ sym q
+pub one-compute-compute : OneResult 1 compute-compute-kinds.ps compute-compute-kinds.r compute-compute.Post
+one-compute-compute κs a x y s t p q = p .clipped ∙ sym (q .clipped)
 
 pub one-lines-load : OneResult 1 lines-load-kinds.ps lines-load-kinds.r lines-load.Post
 one-lines-load κs a x y s t p q = p ∙ sym q
