@@ -3,7 +3,7 @@ use decode::ops::Op;
 use groups::summary::all_true;
 use groups::summary::none_true;
 ghost use mathlib.Core.Path.{_≡_};
-ghost use mathlib.Core.Bool.{cond, _&&_};
+ghost use mathlib.Core.Bool.{true, cond, _&&_};
 ghost use Rattle.effects.specs.Flags.{compares, statusOf, fromStatus, markedOf, summaryOf, recordedOf};
 
 // The bits that an instruction can leave beside a vector. CR6 is a number of four bits.
@@ -65,18 +65,15 @@ fn summary(x: [u8; 16]) -> u8
     0
 }
 
-// A compare with Rc sets CR6, and nothing else does.
-pub fn recorded(f: Flags, records: bool, x: [u8; 16]) -> Flags
-    ensures { λ r. ⌜ r ≡ recordedOf f records x ⌝ }
+// CR6 after a compare with Rc.
+pub fn recorded(f: Flags, x: [u8; 16]) -> Flags
+    ensures { λ r. ⌜ r ≡ recordedOf f true x ⌝ }
 {
-    if records {
-        return Flags {
-            nj: f.nj,
-            sat: f.sat,
-            cr6: summary(x),
-        };
+    Flags {
+        nj: f.nj,
+        sat: f.sat,
+        cr6: summary(x),
     }
-    f
 }
 
 // The compares.

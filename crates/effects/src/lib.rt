@@ -10,7 +10,6 @@ use flags::marked;
 use flags::recorded;
 use flags::records;
 pub use flags::status;
-use lanes::Marked;
 use lines::load;
 use lines::load_element;
 use lines::set_vector;
@@ -20,24 +19,25 @@ use lines::vector;
 use moves::lvsl;
 use moves::lvsr;
 ghost use mathlib.Core.Path.{_≡_};
+ghost use Prim.Native.Nat.{_*_};
 ghost use lib.ListN.{length};
+ghost use Rattle.lines.specs.Lines.{put};
 ghost use Rattle.control.specs.Orders.{InFields, Reaches};
-ghost use Rattle.effects.specs.Effects.{computedOf, heldOf, effectOf};
+ghost use Rattle.effects.specs.Effects.{computedOf, flagsAfter, heldOf, effectOf};
 
-// All sources are read before anything is written.
-fn computed(w: Decoded, v: &[u8; 512]) -> Marked
+// A vector instruction. A compare that sets CR6 is a call of its own: a compare has no register C, and is given B again. Were the two calls the same, the
+// compiler would make one of them, and take all instructions into the loop of the run.
+fn computed(w: Decoded, v: &mut [u8; 512], flags: Flags) -> Flags
     requires { ⌜ InFields w ⌝ }
-    ensures { λ r. ⌜ r ≡ computedOf w (now (v .entry)) ⌝ }
+    ensures { λ r. ⌜ (now (v .exit) ≡ put (now (v .entry)) (16 * w .d) (computedOf w (now (v .entry)) .bytes)) × (r ≡ flagsAfter w (computedOf w (now (v .entry))) flags) ⌝ }
 {
     let op = w.op;
-    compute(
-        op,
-        vector(v, w.a),
-        vector(v, w.b),
-        vector(v, w.c),
-        w.a as u8,
-        w.count as u8,
-    )
+    if records(op, w.rc) {
+        let marks = compute(v, w.d, w.a, w.b, w.b, w.count as u8, op);
+        return recorded(marked(flags, marks), vector(v, w.d));
+    }
+    let marks = compute(v, w.d, w.a, w.b, w.c, w.count as u8, op);
+    marked(flags, marks)
 }
 
 // What an order for the decoded word w does. The general registers are control's.
@@ -48,13 +48,7 @@ pub fn effect(o: Order, w: Decoded, v: &mut [u8; 512], flags: Flags, mem: &mut [
     match o {
         Order::Refuse(_) => flags,
         Order::SetGeneral(_) => flags,
-        Order::Compute => {
-            let r = computed(w, v);
-            let x = r.bytes;
-            let op = w.op;
-            set_vector(v, w.d, x);
-            recorded(marked(flags, r.marks), records(op, w.rc), x)
-        }
+        Order::Compute => computed(w, v, flags),
         Order::ReadStatus => {
             set_vector(v, w.d, status(flags));
             flags

@@ -21,3 +21,4 @@ pub mod SingleInstructions
 pub mod SingleParts
 pub mod SingleGroups
 pub mod SingleBuffers
+pub mod SingleRegisters

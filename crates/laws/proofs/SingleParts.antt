@@ -34,8 +34,6 @@ use Rattle.decode.proofs.traits.position_bound.Kinds as decode-position-bound-k
 use Rattle.decode.proofs.traits.position_bound.Reads as decode-position-bound
 use Rattle.decode.proofs.traits.reserved.Kinds as decode-reserved-kinds
 use Rattle.decode.proofs.traits.reserved.Reads as decode-reserved
-use Rattle.compute.proofs.compute.Kinds as compute-compute-kinds
-use Rattle.compute.proofs.compute.Reads as compute-compute
 use Rattle.lines.proofs.load.Kinds as lines-load-kinds
 use Rattle.lines.proofs.load.Reads as lines-load
 use Rattle.lines.proofs.load_element.Kinds as lines-load-element-kinds
@@ -174,6 +172,10 @@ use Rattle.texts.proofs.general_line.Kinds as texts-general-line-kinds
 use Rattle.texts.proofs.general_line.Reads as texts-general-line
 use Rattle.control.proofs.control.Kinds as control-control-kinds
 use Rattle.control.proofs.control.Reads as control-control
+use Rattle.effects.proofs.status.Kinds as effects-status-kinds
+use Rattle.effects.proofs.status.Reads as effects-status
+use Rattle.effects.proofs.from_status.Kinds as effects-from-status-kinds
+use Rattle.effects.proofs.from_status.Reads as effects-from-status
 use Rattle.effects.proofs.effect.Kinds as effects-effect-kinds
 use Rattle.effects.proofs.effect.Reads as effects-effect
 use Rattle.halves.proofs.add_sat_s.Kinds as halves-add-sat-s-kinds
@@ -251,9 +253,6 @@ one-decode-position-bound κs a x y s t p q = p ∙ sym q
 
 pub one-decode-reserved : OneResult 0 decode-reserved-kinds.ps decode-reserved-kinds.r decode-reserved.Post
 one-decode-reserved κs a x y s t p q = p ∙ sym q
-
-pub one-compute-compute : OneResult 0 compute-compute-kinds.ps compute-compute-kinds.r compute-compute.Post
-one-compute-compute κs a x y s t p q = p ∙ sym q
 
 pub one-lines-load : OneResult 1 lines-load-kinds.ps lines-load-kinds.r lines-load.Post
 one-lines-load κs a x y s t p q = p ∙ sym q
@@ -473,6 +472,12 @@ one-texts-general-line κs a x y s t p q = p .0 .end ∙ sym (q .0 .end)
 
 pub one-control-control : OneResult 1 control-control-kinds.ps control-control-kinds.r control-control.Post
 one-control-control κs a x y s t p q = p .order ∙ sym (q .order)
+
+pub one-effects-status : OneResult 0 effects-status-kinds.ps effects-status-kinds.r effects-status.Post
+one-effects-status κs a x y s t p q = p ∙ sym q
+
+pub one-effects-from-status : OneResult 0 effects-from-status-kinds.ps effects-from-status-kinds.r effects-from-status.Post
+one-effects-from-status κs a x y s t p q = p ∙ sym q
 
 pub one-effects-effect : OneResult 2 effects-effect-kinds.ps effects-effect-kinds.r effects-effect.Post
 one-effects-effect κs a x y s t p q = ap (λ (h : Held). h .flags) (p ∙ sym q)

@@ -1,7 +1,6 @@
 -- `effects::effect` meets its contract.
 -- Assumes nothing.
 use native.Mathlib.Omega.{arith}
-use Rattle.effects.specs.Effects.{flagsAfter}
 use borrow.Author.Needs.{needs}
 use Rattle.effects.proofs.effect.Statement.{statement}
 use Rattle.effects.proofs.effect.Tie as tie
@@ -20,15 +19,6 @@ computed-requires c κs = search needs
 
 set-vector-requires : tie.Need-set-vector-requires
 set-vector-requires c κs = search needs
-
-marked-requires : tie.Need-marked-requires
-marked-requires c κs = search needs
-
-records-requires : tie.Need-records-requires
-records-requires c κs = search needs
-
-recorded-requires : tie.Need-recorded-requires
-recorded-requires c κs = search needs
 
 enum-told-4 : tie.Need-enum-told-4
 enum-told-4 c = search needs
@@ -96,9 +86,6 @@ enum-known-o-5 c = search needs
 load-element-requires : tie.Need-load-element-requires
 load-element-requires c κs = let h = rw ((c .before .before .o5 .given) .1) at ((c .before .before .before .before .before .pre) .1) in (h .line .ends, h .within)
 
-set-vector-requires-6 : tie.Need-set-vector-requires-6
-set-vector-requires-6 c κs = search needs
-
 enum-known-o-6 : tie.Need-enum-known-o-6
 enum-known-o-6 c = search needs
 
@@ -117,8 +104,7 @@ returns-2 : tie.Need-returns-2
 returns-2 c = rw ((c .enum-told2 .given) .1)
 
 returns-3 : tie.Need-returns-3
-unfolding flagsAfter
-returns-3 c = rw ((c .before .before .before .before .before .before .before .before .enum-told3 .given) .1) (cc)
+returns-3 c = rw ((c .before .before .enum-told3 .given) .1) (cc)
 
 returns-4 : tie.Need-returns-4
 returns-4 c = rw ((c .before .before .before .enum-told4 .given) .1) (cc)
@@ -164,33 +150,29 @@ effect-spec =
     enum-told-2
     enum-told-3
     computed-requires
-    set-vector-requires
-    marked-requires
-    records-requires
-    recorded-requires
     enum-told-4
     status-requires
-    set-vector-requires-2
+    set-vector-requires
     enum-told-5
     vector-requires
     from-status-requires
     enum-known-o
     cast-lvsl
     lvsl-requires
-    set-vector-requires-3
+    set-vector-requires-2
     enum-known-o-2
     cast-lvsr
     lvsr-requires
-    set-vector-requires-4
+    set-vector-requires-3
     enum-known-o-3
     load-requires
-    set-vector-requires-5
+    set-vector-requires-4
     enum-known-o-4
     vector-requires-2
     store-requires
     enum-known-o-5
     load-element-requires
-    set-vector-requires-6
+    set-vector-requires-5
     enum-known-o-6
     vector-requires-3
     store-element-requires

@@ -10,11 +10,7 @@ summary-requires c κs = search needs
 
 returns : tie.Need-returns
 unfolding recordedOf
-returns c = rw ((c .before .if1 .taken), (c .summary .ensures))
-
-returns-2 : tie.Need-returns-2
-unfolding recordedOf
-returns-2 c = rw (c .if1 .left)
+returns c = rw (c .summary .ensures)
 
 pub recorded-spec : {M : Type 1} → statement M
-recorded-spec = tie.close (tie.spec summary-requires returns returns-2)
+recorded-spec = tie.close (tie.spec summary-requires returns)
