@@ -1,10 +1,10 @@
 -- What the families of instructions compute, by the width and the sign of their lanes. Assumes nothing.
 use mathlib.Core.List.{List}
 use Prim.Native.Nat.{ℕ}
-use Rattle.decode.specs.declared.ops.Width.{Width}
-use Rattle.decode.specs.declared.ops.Width.the-variants as width
-use Rattle.decode.specs.declared.ops.Sign.{Sign}
-use Rattle.decode.specs.declared.ops.Sign.the-variants.{Unsigned, Signed}
+use Rattle.encodings.specs.declared.ops.Width.{Width}
+use Rattle.encodings.specs.declared.ops.Width.the-variants as width
+use Rattle.encodings.specs.declared.ops.Sign.{Sign}
+use Rattle.encodings.specs.declared.ops.Sign.the-variants.{Unsigned, Signed}
 use Rattle.lanes.specs.declared.Marked.{Marked}
 use Rattle.lanes.specs.declared.Op.{Op}
 use Rattle.lanes.specs.declared.Op.the-variants.{SumBytesU, SumBytesS, SumHalvesS, MulSumBytesU, MulSumHalvesU, MulSumHalvesS}

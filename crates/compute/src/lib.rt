@@ -2,9 +2,9 @@
 ghost use Prim.Native.Nat.{_<_};
 ghost use Rattle.registers.specs.Registers.{at, Leaves};
 ghost use Rattle.compute.specs.Computed.{computed};
-use decode::ops::Op;
-use decode::ops::Sign;
-use decode::ops::Width;
+use encodings::ops::Op;
+use encodings::ops::Sign;
+use encodings::ops::Width;
 use register_bits::vand;
 use register_bits::vandc;
 use register_bits::vcmpequb;

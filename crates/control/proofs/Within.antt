@@ -7,10 +7,10 @@ use mathlib.Core.List.{List}
 use native.Mathlib.Omega.{arith}
 use lib.Dec.{eqb, leb, ltb}
 use borrow.Author.Tests.{eqb-true, leb-true, ltb-true}
-use Rattle.decode.specs.Bits.{pick}
+use Rattle.encodings.specs.Bits.{pick}
 use Rattle.decode.specs.declared.Decoded.{Decoded}
-use Rattle.decode.specs.declared.ops.Width.{Width}
-use Rattle.decode.specs.declared.ops.Width.the-variants.{Byte, Half, Word}
+use Rattle.encodings.specs.declared.ops.Width.{Width}
+use Rattle.encodings.specs.declared.ops.Width.the-variants.{Byte, Half, Word}
 use Rattle.control.specs.declared.answers.Answer.the-variants.{NoInstruction, Reserved}
 use Rattle.control.specs.declared.kinds.Kind.{Kind}
 use Rattle.control.specs.declared.kinds.Kind.the-variants.{Absent, Vector, GetStatus, PutStatus, LeftPattern, RightPattern, GetElement, GetLine, PutElement, PutLine, AddScalar}

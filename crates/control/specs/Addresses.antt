@@ -5,9 +5,9 @@ use mathlib.Core.Bool.{Bool, false}
 use mathlib.Core.List.{List}
 use lib.ListN.{getD}
 use lib.Dec.{eqb, leb, ltb}
-use Rattle.decode.specs.Bits.{pick}
-use Rattle.decode.specs.declared.ops.Width.{Width}
-use Rattle.decode.specs.declared.ops.Width.the-variants.{Byte, Half, Word}
+use Rattle.encodings.specs.Bits.{pick}
+use Rattle.encodings.specs.declared.ops.Width.{Width}
+use Rattle.encodings.specs.declared.ops.Width.the-variants.{Byte, Half, Word}
 use Rattle.control.specs.declared.addresses.Item.{Item}
 use Rattle.control.specs.declared.addresses.Item.the-variants.{At, Missing}
 

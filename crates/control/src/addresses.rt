@@ -1,5 +1,5 @@
 // Document 01, "Addresses": of the general registers, what addi gives and which item of the memory is meant.
-use decode::ops::Width;
+use encodings::ops::Width;
 ghost use mathlib.Core.Path.{_≡_};
 ghost use Prim.Native.Nat.{_<_};
 ghost use Rattle.control.specs.Addresses.{orZero, addressOf, extended, sumOf, bytesOf, aligned, itemOf};

@@ -1,6 +1,6 @@
 // How control treats each operation.
-use decode::ops::Op;
-use decode::ops::Width;
+use encodings::ops::Op;
+use encodings::ops::Width;
 ghost use mathlib.Core.Path.{_≡_};
 ghost use Rattle.control.specs.Kinds.{kindOf, isAbsent};
 

@@ -11,7 +11,7 @@ use crate::kinds::is_absent;
 use crate::kinds::kind_of;
 use crate::orders::Order;
 use decode::Decoded;
-use decode::ops::Width;
+use encodings::ops::Width;
 ghost use mathlib.Core.Path.{_≡_};
 ghost use Prim.Native.Nat.{_<_};
 ghost use Rattle.control.specs.Addresses.{bytesOf};

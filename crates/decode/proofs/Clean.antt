@@ -6,16 +6,16 @@ use Prim.Native.Nat.{ℕ, _%_, _≤_, _<_}
 use native.Mathlib.Nat.{mod-one}
 use native.Mathlib.Omega.{arith}
 use borrow.Author.Tests.{eqb-true, not-false}
-use Rattle.decode.specs.Bits.{bits}
-use Rattle.decode.specs.Encodings.{opOf, opAt}
+use Rattle.encodings.specs.Bits.{bits}
+use Rattle.encodings.specs.Encodings.{opOf, opAt}
 use Rattle.decode.specs.Reserved.{ends, held, anyOf, without}
 use Rattle.decode.specs.Traits.{reservedOf}
 use Rattle.decode.specs.Decode.{runOf, clearedOf}
-use Rattle.decode.specs.declared.ops.Op.{Op}
+use Rattle.encodings.specs.declared.ops.Op.{Op}
 use Rattle.decode.specs.declared.reserved.Run.the-variants.{Empty}
 use Rattle.decode.proofs.Runs.{placed, none-left, unchanged, left-of, right-of, low}
-use Rattle.decode.proofs.Table.{agree}
-use Rattle.decode.proofs.Words.{of-primary, of-14, of-others, by-primary}
+use Rattle.encodings.proofs.Table.{agree}
+use Rattle.encodings.proofs.Words.{of-primary, of-14, of-others, by-primary}
 
 -- the operation of a word that has zeros outside its primary and its low eleven bits, once its reserved bits are cleared
 abbrev steady : ℕ → ℕ → Op

@@ -4,10 +4,10 @@ use mathlib.Core.Path.{_≡_, refl}
 use mathlib.Core.Bool.{Bool, true}
 use mathlib.Core.List.{List, [], _∷_}
 use Prim.Native.Nat.{ℕ, _+_}
-use Rattle.decode.specs.Bits.{pick}
-use Rattle.decode.specs.Encodings.{Row, Section, sections}
+use Rattle.encodings.specs.Bits.{pick}
+use Rattle.encodings.specs.Encodings.{Row, Section, sections}
 use Rattle.decode.specs.Traits.{canClip, positionBound}
-use Rattle.decode.specs.declared.ops.Op.{Op}
+use Rattle.encodings.specs.declared.ops.Op.{Op}
 
 abbrev countRows : (Op → Bool) → List Row → ℕ
 countRows f [] = 0

@@ -5,7 +5,7 @@ use Prim.Native.Nat.{ℕ, _+_, _-_, _*_, _/_, _%_, _^_, _≤_, _<_}
 use native.Mathlib.Nat.{add-assoc, zero-add, add-mul, mul-assoc, zero-mul, sub-zero, add-sub-cancel, div-add-mod', mod-add-div', mod-lt, div-eq-of-lt, div-div-eq-div-mul, mul-div-cancel, mul-mod-left, add-mul-div-right, add-mul-mod-self-right}
 use native.Mathlib.Omega.{arith}
 use lib.Pow.{pow-add, pow-pos}
-use Rattle.decode.specs.Bits.{bits}
+use Rattle.encodings.specs.Bits.{bits}
 use Rattle.decode.specs.Reserved.{ends, held, without}
 use Rattle.decode.specs.declared.reserved.Run.{Run}
 use Rattle.decode.specs.declared.reserved.Run.the-variants.{Empty, Last, BeforeCount, A, B, AB, DA, BeforeByteLane, BeforeHalfLane, BeforeWordLane}

@@ -3,8 +3,8 @@
 use Prim.Native.Nat.{ℕ}
 use mathlib.Core.Bool.{not}
 use lib.Dec.{eqb}
-use Rattle.decode.specs.Bits.{bits}
-use Rattle.decode.specs.Encodings.{opOf}
+use Rattle.encodings.specs.Bits.{bits}
+use Rattle.encodings.specs.Encodings.{opOf}
 use Rattle.decode.specs.Reserved.{anyOf, without}
 use Rattle.decode.specs.Traits.{reservedOf}
 use Rattle.decode.specs.declared.reserved.Run.{Run}

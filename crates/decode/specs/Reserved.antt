@@ -4,7 +4,7 @@
 use Prim.Native.Nat.{ℕ, _-_, _*_, _^_}
 use mathlib.Core.Bool.{Bool, not}
 use lib.Dec.{eqb}
-use Rattle.decode.specs.Bits.{bits}
+use Rattle.encodings.specs.Bits.{bits}
 use Rattle.decode.specs.declared.reserved.Run.{Run}
 use Rattle.decode.specs.declared.reserved.Run.the-variants.{Empty, Last, BeforeCount, A, B, AB, DA, BeforeByteLane, BeforeHalfLane, BeforeWordLane}
 

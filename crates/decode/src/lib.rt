@@ -1,11 +1,9 @@
 // The decoder: of every 32-bit word the instruction that it carries, its fields, and whether a reserved bit is set.
-pub mod encodings;
-pub mod ops;
 pub mod reserved;
 pub mod traits;
 
 use encodings::operation;
-use ops::Op;
+use encodings::ops::Op;
 use reserved::any;
 use reserved::clear;
 use traits::reserved;

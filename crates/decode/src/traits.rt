@@ -1,7 +1,7 @@
 // What holds of an operation: the vectors that it reads and writes, whether it can clip, whether it is position-bound, its reserved bits.
-use crate::ops::Op;
-use crate::ops::Width;
 use crate::reserved::Run;
+use encodings::ops::Op;
+use encodings::ops::Width;
 ghost use mathlib.Core.Path.{_≡_};
 ghost use Rattle.decode.specs.Traits.{traitsOf, beforeLane, readsA, readsB, readsC, readsD, writesD, canClip, positionBound, reservedOf};
 

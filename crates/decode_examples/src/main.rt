@@ -1,9 +1,9 @@
 // Prints a list of words, decoded: a line a word, with its mnemonic, its fields, its traits and the word with its reserved bits cleared.
 // The stored list has each of the 132 instructions with its fields, each reserved bit alone, codes beside a carried one that are not carried,
 // and some words with all other bits set.
-use decode::ops::Op;
-use decode::ops::Sign;
-use decode::ops::Width;
+use encodings::ops::Op;
+use encodings::ops::Sign;
+use encodings::ops::Width;
 use libc::STDIN_FILENO;
 use libc::STDOUT_FILENO;
 ghost use Prim.Native.Nat.{_<_};

@@ -8,15 +8,15 @@ use native.Mathlib.Omega.{arith}
 use native.Mathlib.Nat.{min-le-right}
 use lib.ListN.{length, drop, length-take, length-drop}
 use Rattle.decode.specs.declared.Decoded.{Decoded}
-use Rattle.decode.specs.declared.ops.Op.{Op}
-use Rattle.decode.specs.declared.ops.Op.the-variants.{Unknown, AddMod, AddCarry, AddSat, SubMod, SubCarry, SubSat, Max, Min, Average, Rotate, ShiftLeft, ShiftRight, ShiftAlgebraic, ShiftWholeLeft, ShiftWholeRight, ShiftBytesLeft, ShiftBytesRight, And, AndNot, Or, Xor, Nor, FromStatus, ToStatus, MulOdd, MulEven, SumQuarter, SumHalf, SumAll, MergeHigh, MergeLow, Splat, SplatImmediate, PackMod, PackSat, UnpackHigh, UnpackLow, CompareEqual, CompareGreater, MulHighAdd, MulHighRoundAdd, MulLowAdd, MulSum, MulSumMixed, MulSumSat, Select, Permute, ShiftPair, LoadShiftLeft, LoadShiftRight, LoadElement, LoadLine, StoreElement, StoreLine, AddImmediate}
+use Rattle.encodings.specs.declared.ops.Op.{Op}
+use Rattle.encodings.specs.declared.ops.Op.the-variants.{Unknown, AddMod, AddCarry, AddSat, SubMod, SubCarry, SubSat, Max, Min, Average, Rotate, ShiftLeft, ShiftRight, ShiftAlgebraic, ShiftWholeLeft, ShiftWholeRight, ShiftBytesLeft, ShiftBytesRight, And, AndNot, Or, Xor, Nor, FromStatus, ToStatus, MulOdd, MulEven, SumQuarter, SumHalf, SumAll, MergeHigh, MergeLow, Splat, SplatImmediate, PackMod, PackSat, UnpackHigh, UnpackLow, CompareEqual, CompareGreater, MulHighAdd, MulHighRoundAdd, MulLowAdd, MulSum, MulSumMixed, MulSumSat, Select, Permute, ShiftPair, LoadShiftLeft, LoadShiftRight, LoadElement, LoadLine, StoreElement, StoreLine, AddImmediate}
 use Rattle.lanes.specs.Words.{joined, bytesOf}
 use Rattle.lines.specs.Lines.{part, sixteen, put}
 use Rattle.lines.proofs.Parts.{put-long, sixteen-same}
 use Rattle.compute.specs.Computed.{computed}
 use Rattle.registers.specs.Registers.{Leaves}
-use Rattle.effects.specs.declared.flags.Flags.{Flags}
-use Rattle.effects.specs.Flags.{compares, markedOf, recordedOf}
+use Rattle.flags.specs.declared.Flags.{Flags}
+use Rattle.flags.specs.Flags.{compares, markedOf, recordedOf}
 use Rattle.effects.specs.Effects.{register, computedOf, flagsAfter}
 
 module _ (a b c d : List ℕ) (i n : ℕ) where

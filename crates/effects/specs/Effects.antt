@@ -9,8 +9,8 @@ use Rattle.moves.specs.Chosen.{patternLeft, patternRight}
 use Rattle.compute.specs.Computed.{computed}
 use Rattle.control.specs.declared.orders.Order.{Order}
 use Rattle.control.specs.declared.orders.Order.the-variants.{Refuse, SetGeneral, Compute, ReadStatus, WriteStatus, PatternLeft, PatternRight, ReadLine, WriteLine, ReadElement, WriteElement}
-use Rattle.effects.specs.declared.flags.Flags.{Flags}
-use Rattle.effects.specs.Flags.{compares, statusOf, fromStatus, markedOf, recordedOf}
+use Rattle.flags.specs.declared.Flags.{Flags}
+use Rattle.flags.specs.Flags.{compares, statusOf, fromStatus, markedOf, recordedOf}
 
 -- what data works on
 pub record Held : Type 0 where

@@ -1,15 +1,13 @@
 // DATA: what an order does to the vectors, the flags and the memory. It sees no general register and no address.
-mod flags;
-
 use compute::compute;
 use control::orders::Order;
 use decode::Decoded;
-pub use flags::Flags;
-pub use flags::from_status;
+use flags::Flags;
+use flags::from_status;
 use flags::marked;
 use flags::recorded;
 use flags::records;
-pub use flags::status;
+use flags::status;
 use lines::load;
 use lines::load_element;
 use lines::set_vector;

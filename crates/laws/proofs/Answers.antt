@@ -8,10 +8,10 @@ use mathlib.Core.Logic.{_↔_, inl, inr}
 use lib.ListN.{length}
 use lib.Dec.{eqb, leb, ltb}
 use borrow.Author.Tests.{ltb-false, leb-true, leb-false, eqb-true, le-leb, lt-leb, eq-eqb}
-use Rattle.decode.specs.Bits.{pick}
+use Rattle.encodings.specs.Bits.{pick}
 use Rattle.decode.specs.declared.Decoded.{Decoded}
-use Rattle.decode.specs.declared.ops.Op.{Op}
-use Rattle.decode.specs.declared.ops.Op.the-variants.{Unknown}
+use Rattle.encodings.specs.declared.ops.Op.{Op}
+use Rattle.encodings.specs.declared.ops.Op.the-variants.{Unknown}
 use Rattle.control.specs.declared.answers.Answer.{Answer}
 use Rattle.control.specs.declared.answers.Answer.the-variants.{Done, Spent, Misplaced, LongCode, BadStart, NoInstruction, Reserved, Outside}
 use Rattle.control.specs.declared.addresses.Item.{Item}

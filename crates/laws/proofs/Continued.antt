@@ -9,7 +9,7 @@ use native.Mathlib.Nat.{zero-add, suc-add, add-zero, add-assoc}
 use lib.ListN.{length}
 use lib.Dec.{eqb, leb}
 use borrow.Author.Tests.{le-leb, leb-true}
-use Rattle.decode.specs.Bits.{pick}
+use Rattle.encodings.specs.Bits.{pick}
 use Rattle.control.specs.declared.answers.Answer.{Answer}
 use Rattle.control.specs.declared.answers.Answer.the-variants.{Done, Spent, Misplaced, LongCode, BadStart}
 use Rattle.control.specs.Addresses.{wellPlaced}

@@ -10,15 +10,15 @@ use lib.ListN.{length}
 use lib.Dec.{eqb, ltb}
 use lib.IntN.{_+ℤ_}
 use borrow.Author.Tests.{ltb-false}
-use Rattle.decode.specs.Bits.{pick}
+use Rattle.encodings.specs.Bits.{pick}
 use Rattle.decode.specs.Traits.{canClip}
 use Rattle.decode.specs.declared.Decoded.{Decoded}
-use Rattle.decode.specs.declared.ops.Width.{Width}
-use Rattle.decode.specs.declared.ops.Width.the-variants as width
-use Rattle.decode.specs.declared.ops.Sign.{Sign}
-use Rattle.decode.specs.declared.ops.Sign.the-variants.{Unsigned, Signed}
-use Rattle.decode.specs.declared.ops.Op.{Op}
-use Rattle.decode.specs.declared.ops.Op.the-variants.{Unknown, AddMod, AddCarry, AddSat, SubMod, SubCarry, SubSat, Max, Min, Average, Rotate, ShiftLeft, ShiftRight, ShiftAlgebraic, ShiftWholeLeft, ShiftWholeRight, ShiftBytesLeft, ShiftBytesRight, And, AndNot, Or, Xor, Nor, FromStatus, ToStatus, MulOdd, MulEven, SumQuarter, SumHalf, SumAll, MergeHigh, MergeLow, Splat, SplatImmediate, PackMod, PackSat, UnpackHigh, UnpackLow, CompareEqual, CompareGreater, MulHighAdd, MulHighRoundAdd, MulLowAdd, MulSum, MulSumMixed, MulSumSat, Select, Permute, ShiftPair, LoadShiftLeft, LoadShiftRight, LoadElement, LoadLine, StoreElement, StoreLine, AddImmediate}
+use Rattle.encodings.specs.declared.ops.Width.{Width}
+use Rattle.encodings.specs.declared.ops.Width.the-variants as width
+use Rattle.encodings.specs.declared.ops.Sign.{Sign}
+use Rattle.encodings.specs.declared.ops.Sign.the-variants.{Unsigned, Signed}
+use Rattle.encodings.specs.declared.ops.Op.{Op}
+use Rattle.encodings.specs.declared.ops.Op.the-variants.{Unknown, AddMod, AddCarry, AddSat, SubMod, SubCarry, SubSat, Max, Min, Average, Rotate, ShiftLeft, ShiftRight, ShiftAlgebraic, ShiftWholeLeft, ShiftWholeRight, ShiftBytesLeft, ShiftBytesRight, And, AndNot, Or, Xor, Nor, FromStatus, ToStatus, MulOdd, MulEven, SumQuarter, SumHalf, SumAll, MergeHigh, MergeLow, Splat, SplatImmediate, PackMod, PackSat, UnpackHigh, UnpackLow, CompareEqual, CompareGreater, MulHighAdd, MulHighRoundAdd, MulLowAdd, MulSum, MulSumMixed, MulSumSat, Select, Permute, ShiftPair, LoadShiftLeft, LoadShiftRight, LoadElement, LoadLine, StoreElement, StoreLine, AddImmediate}
 use Rattle.lanes.specs.declared.Lane.{Lane}
 use Rattle.lanes.specs.declared.Op.the-variants as lane
 use Rattle.lanes.specs.declared.Size.the-variants.{Byte, Half, Word}

@@ -4,7 +4,7 @@ use mathlib.Core.Path.{_≡_, refl}
 use mathlib.Core.Bool.{true}
 use mathlib.Core.List.{map}
 use lib.ListN.{replicate}
-use Rattle.decode.specs.Encodings.{opOf}
+use Rattle.encodings.specs.Encodings.{opOf}
 use Rattle.lanes.specs.Integer.{signed, clamp, outside, saturated, modulo}
 use Rattle.lanes.specs.Numbers.{numberAt}
 use Rattle.lanes.specs.Operations.{laneOp}
@@ -15,7 +15,7 @@ use Rattle.moves.specs.Shifted.{number}
 use Rattle.compute.specs.Computed.{computed}
 use Rattle.control.specs.Addresses.{orZero, addressOf, itemOf, wellPlaced}
 use Rattle.control.specs.Orders.{orderOf}
-use Rattle.effects.specs.Flags.{markedOf, recordedOf}
+use Rattle.flags.specs.Flags.{markedOf, recordedOf}
 use Rattle.effects.specs.Effects.{computedOf, flagsAfter}
 use Rattle.machine.specs.Runs.{orderAt, runs, runOf}
 use Rattle.laws.specs.Examples.{examples, holds}

@@ -6,7 +6,7 @@ use mathlib.Core.Bool.{Bool, true, false, true≢false}
 use mathlib.Core.List.{List}
 use native.Mathlib.Omega.{arith}
 use lib.ListN.{length}
-use Rattle.decode.specs.Bits.{pick}
+use Rattle.encodings.specs.Bits.{pick}
 use Rattle.decode.specs.declared.Decoded.{Decoded}
 use Rattle.control.specs.declared.answers.Answer.the-variants.{NoInstruction, Reserved}
 use Rattle.control.specs.declared.kinds.Kind.{Kind}

@@ -7,7 +7,7 @@ use mathlib.Core.List.{List}
 use native.Mathlib.Omega.{arith}
 use lib.ListN.{length, getD}
 use lib.Dec.{eqb, leb}
-use Rattle.decode.specs.Bits.{pick}
+use Rattle.encodings.specs.Bits.{pick}
 use Rattle.decode.specs.declared.Decoded.{Decoded}
 use Rattle.decode.specs.Traits.{positionBound}
 use Rattle.lanes.specs.declared.Marked.{Marked}
@@ -22,7 +22,7 @@ use Rattle.control.specs.Addresses.{wellPlaced}
 use Rattle.control.specs.Orders.{refuses, refusalOf, InFields, Reaches}
 use Rattle.control.proofs.Fields.{decoded}
 use Rattle.control.proofs.Within.{reaches}
-use Rattle.effects.specs.Flags.{markedOf, recordedOf}
+use Rattle.flags.specs.Flags.{markedOf, recordedOf}
 use Rattle.effects.specs.Effects.{Held, heldOf, register, computedOf, flagsAfter, effectOf}
 use Rattle.machine.specs.declared.Machine.{Machine}
 use Rattle.machine.specs.Runs.{State, Out, flagsIn, starts, stops, wordAt, orderAt, next, runs, runOf}

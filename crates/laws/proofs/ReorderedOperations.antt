@@ -9,12 +9,12 @@ use native.Mathlib.Omega.{arith}
 use lib.ListN.{length}
 use lib.Dec.{eqb, ltb}
 use borrow.Author.Tests.{lt-ltb}
-use Rattle.decode.specs.declared.ops.Width.{Width}
-use Rattle.decode.specs.declared.ops.Width.the-variants as width
-use Rattle.decode.specs.declared.ops.Sign.{Sign}
-use Rattle.decode.specs.declared.ops.Sign.the-variants.{Unsigned, Signed}
-use Rattle.decode.specs.declared.ops.Op.{Op}
-use Rattle.decode.specs.declared.ops.Op.the-variants.{Unknown, AddMod, AddCarry, AddSat, SubMod, SubCarry, SubSat, Max, Min, Average, Rotate, ShiftLeft, ShiftRight, ShiftAlgebraic, ShiftWholeLeft, ShiftWholeRight, ShiftBytesLeft, ShiftBytesRight, And, AndNot, Or, Xor, Nor, FromStatus, ToStatus, MulOdd, MulEven, SumQuarter, SumHalf, SumAll, MergeHigh, MergeLow, Splat, SplatImmediate, PackMod, PackSat, UnpackHigh, UnpackLow, CompareEqual, CompareGreater, MulHighAdd, MulHighRoundAdd, MulLowAdd, MulSum, MulSumMixed, MulSumSat, Select, Permute, ShiftPair, LoadShiftLeft, LoadShiftRight, LoadElement, LoadLine, StoreElement, StoreLine, AddImmediate}
+use Rattle.encodings.specs.declared.ops.Width.{Width}
+use Rattle.encodings.specs.declared.ops.Width.the-variants as width
+use Rattle.encodings.specs.declared.ops.Sign.{Sign}
+use Rattle.encodings.specs.declared.ops.Sign.the-variants.{Unsigned, Signed}
+use Rattle.encodings.specs.declared.ops.Op.{Op}
+use Rattle.encodings.specs.declared.ops.Op.the-variants.{Unknown, AddMod, AddCarry, AddSat, SubMod, SubCarry, SubSat, Max, Min, Average, Rotate, ShiftLeft, ShiftRight, ShiftAlgebraic, ShiftWholeLeft, ShiftWholeRight, ShiftBytesLeft, ShiftBytesRight, And, AndNot, Or, Xor, Nor, FromStatus, ToStatus, MulOdd, MulEven, SumQuarter, SumHalf, SumAll, MergeHigh, MergeLow, Splat, SplatImmediate, PackMod, PackSat, UnpackHigh, UnpackLow, CompareEqual, CompareGreater, MulHighAdd, MulHighRoundAdd, MulLowAdd, MulSum, MulSumMixed, MulSumSat, Select, Permute, ShiftPair, LoadShiftLeft, LoadShiftRight, LoadElement, LoadLine, StoreElement, StoreLine, AddImmediate}
 use Rattle.decode.specs.Traits.{positionBound}
 use Rattle.lanes.specs.declared.Marked.{Marked}
 use Rattle.lanes.specs.declared.Op as laneOp
@@ -31,7 +31,7 @@ use Rattle.lanes.proofs.Applied.{word-small}
 use Rattle.vector.specs.Copies.{copies}
 use Rattle.compute.specs.Families.{sizeOf, bySign, unclipped, products, quarterSums, productSums}
 use Rattle.compute.specs.Computed.{computed}
-use Rattle.effects.specs.Flags.{summaryOf}
+use Rattle.flags.specs.Flags.{summaryOf}
 use Rattle.laws.proofs.Bytes.{copies-bytes, applied-bytes}
 
 -- the second result is the first reordered, and a lane of it was clipped where one of the first was

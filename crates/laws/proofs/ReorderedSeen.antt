@@ -7,7 +7,7 @@ use mathlib.Core.List.{List, map}
 use native.Mathlib.Omega.{arith}
 use lib.ListN.{getD, replicate, getD-replicate, List·getD-map}
 use borrow.Author.Tests.{eqb-false, not-true}
-use Rattle.decode.specs.Encodings.{sections, opOf}
+use Rattle.encodings.specs.Encodings.{sections, opOf}
 use Rattle.lanes.specs.Integer.{signed, clamp, saturated, modulo}
 use Rattle.lanes.specs.Numbers.{numberAt}
 use Rattle.lanes.specs.Order.{Order}
@@ -18,7 +18,7 @@ use Rattle.moves.specs.Shifted.{number}
 use Rattle.compute.specs.Computed.{computed}
 use Rattle.control.specs.Addresses.{orZero, addressOf, itemOf, wellPlaced}
 use Rattle.control.specs.Orders.{orderOf}
-use Rattle.effects.specs.Flags.{statusOf, fromStatus, markedOf, recordedOf}
+use Rattle.flags.specs.Flags.{statusOf, fromStatus, markedOf, recordedOf}
 use Rattle.effects.specs.Effects.{computedOf, flagsAfter}
 use Rattle.machine.specs.Runs.{orderAt, runs, runOf}
 use Rattle.laws.specs.Reorder.{eachLine, reorderedLines, reorderedOut, Whole}

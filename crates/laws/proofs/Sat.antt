@@ -7,9 +7,9 @@ use mathlib.Core.List.{List}
 use native.Mathlib.Omega.{arith}
 use lib.ListN.{length}
 use lib.Dec.{eqb, leb, ltb}
-use Rattle.decode.specs.Bits.{pick}
+use Rattle.encodings.specs.Bits.{pick}
 use Rattle.decode.specs.declared.Decoded.{Decoded}
-use Rattle.decode.specs.declared.ops.Op.the-variants.{ToStatus}
+use Rattle.encodings.specs.declared.ops.Op.the-variants.{ToStatus}
 use Rattle.decode.specs.Traits.{canClip}
 use Rattle.control.specs.declared.answers.Answer.{Answer}
 use Rattle.control.specs.declared.answers.Answer.the-variants.{Done, Spent, Misplaced, LongCode, BadStart, NoInstruction, Reserved}
@@ -22,7 +22,7 @@ use Rattle.control.specs.declared.orders.Order.the-variants.{Refuse, SetGeneral
 use Rattle.control.specs.Addresses.{addressOf, sumOf, bytesOf, aligned, itemOf, wellPlaced}
 use Rattle.control.specs.Kinds.{kindOf, isAbsent}
 use Rattle.control.specs.Orders.{reached, readElement, writeElement, orderIn, orderOf, refuses, refusalOf}
-use Rattle.effects.specs.Flags.{fromStatus}
+use Rattle.flags.specs.Flags.{fromStatus}
 use Rattle.effects.specs.Effects.{Held, heldOf, register, computedOf, effectOf}
 use Rattle.machine.specs.declared.Machine.{Machine}
 use Rattle.machine.specs.Runs.{State, Out, flagsIn, starts, stops, wordAt, orderAt, runs, runOf}

@@ -8,8 +8,8 @@ use Rattle.effects.specs.Effects.{Held}
 use Rattle.machine.specs.declared.Machine.{Machine}
 use Rattle.machine.specs.declared.Ran.{Ran}
 use Rattle.machine.specs.declared.walk.Report.{Report}
-use Rattle.decode.proofs.encodings.operation.Kinds as decode-operation-kinds
-use Rattle.decode.proofs.encodings.operation.Reads as decode-operation
+use Rattle.encodings.proofs.operation.Kinds as decode-operation-kinds
+use Rattle.encodings.proofs.operation.Reads as decode-operation
 use Rattle.decode.proofs.decode.Kinds as decode-decode-kinds
 use Rattle.decode.proofs.decode.Reads as decode-decode
 use Rattle.decode.proofs.cleared.Kinds as decode-cleared-kinds
@@ -172,10 +172,16 @@ use Rattle.texts.proofs.general_line.Kinds as texts-general-line-kinds
 use Rattle.texts.proofs.general_line.Reads as texts-general-line
 use Rattle.control.proofs.control.Kinds as control-control-kinds
 use Rattle.control.proofs.control.Reads as control-control
-use Rattle.effects.proofs.status.Kinds as effects-status-kinds
-use Rattle.effects.proofs.status.Reads as effects-status
-use Rattle.effects.proofs.from_status.Kinds as effects-from-status-kinds
-use Rattle.effects.proofs.from_status.Reads as effects-from-status
+use Rattle.flags.proofs.marked.Kinds as flags-marked-kinds
+use Rattle.flags.proofs.marked.Reads as flags-marked
+use Rattle.flags.proofs.recorded.Kinds as flags-recorded-kinds
+use Rattle.flags.proofs.recorded.Reads as flags-recorded
+use Rattle.flags.proofs.records.Kinds as flags-records-kinds
+use Rattle.flags.proofs.records.Reads as flags-records
+use Rattle.flags.proofs.status.Kinds as flags-status-kinds
+use Rattle.flags.proofs.status.Reads as flags-status
+use Rattle.flags.proofs.from_status.Kinds as flags-from-status-kinds
+use Rattle.flags.proofs.from_status.Reads as flags-from-status
 use Rattle.effects.proofs.effect.Kinds as effects-effect-kinds
 use Rattle.effects.proofs.effect.Reads as effects-effect
 use Rattle.halves.proofs.add_sat_s.Kinds as halves-add-sat-s-kinds
@@ -473,11 +479,20 @@ one-texts-general-line κs a x y s t p q = p .0 .end ∙ sym (q .0 .end)
 pub one-control-control : OneResult 1 control-control-kinds.ps control-control-kinds.r control-control.Post
 one-control-control κs a x y s t p q = p .order ∙ sym (q .order)
 
-pub one-effects-status : OneResult 0 effects-status-kinds.ps effects-status-kinds.r effects-status.Post
-one-effects-status κs a x y s t p q = p ∙ sym q
+pub one-flags-marked : OneResult 0 flags-marked-kinds.ps flags-marked-kinds.r flags-marked.Post
+one-flags-marked κs a x y s t p q = p ∙ sym q
 
-pub one-effects-from-status : OneResult 0 effects-from-status-kinds.ps effects-from-status-kinds.r effects-from-status.Post
-one-effects-from-status κs a x y s t p q = p ∙ sym q
+pub one-flags-recorded : OneResult 0 flags-recorded-kinds.ps flags-recorded-kinds.r flags-recorded.Post
+one-flags-recorded κs a x y s t p q = p ∙ sym q
+
+pub one-flags-records : OneResult 0 flags-records-kinds.ps flags-records-kinds.r flags-records.Post
+one-flags-records κs a x y s t p q = p ∙ sym q
+
+pub one-flags-status : OneResult 0 flags-status-kinds.ps flags-status-kinds.r flags-status.Post
+one-flags-status κs a x y s t p q = p ∙ sym q
+
+pub one-flags-from-status : OneResult 0 flags-from-status-kinds.ps flags-from-status-kinds.r flags-from-status.Post
+one-flags-from-status κs a x y s t p q = p ∙ sym q
 
 pub one-effects-effect : OneResult 2 effects-effect-kinds.ps effects-effect-kinds.r effects-effect.Post
 one-effects-effect κs a x y s t p q = ap (λ (h : Held). h .flags) (p ∙ sym q)

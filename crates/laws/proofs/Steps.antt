@@ -7,7 +7,7 @@ use mathlib.Core.List.{List}
 use native.Mathlib.Omega.{arith}
 use lib.ListN.{length}
 use lib.Dec.{eqb, ltb, leb}
-use Rattle.decode.specs.Bits.{pick}
+use Rattle.encodings.specs.Bits.{pick}
 use Rattle.decode.specs.declared.Decoded.{Decoded}
 use Rattle.control.specs.declared.answers.Answer.{Answer}
 use Rattle.control.specs.declared.answers.Answer.the-variants.{Done, Spent, Misplaced, LongCode, BadStart}
@@ -15,7 +15,7 @@ use Rattle.control.specs.declared.orders.Order.{Order}
 use Rattle.control.specs.declared.orders.Order.the-variants.{Refuse, SetGeneral, Compute, ReadStatus, WriteStatus, PatternLeft, PatternRight, ReadLine, WriteLine, ReadElement, WriteElement}
 use Rattle.control.specs.Addresses.{wellPlaced}
 use Rattle.control.specs.Orders.{refuses, refusalOf}
-use Rattle.effects.specs.Flags.{markedOf, recordedOf}
+use Rattle.flags.specs.Flags.{markedOf, recordedOf}
 use Rattle.effects.specs.Effects.{Held, heldOf, flagsAfter, effectOf}
 use Rattle.machine.specs.declared.Machine.{Machine}
 use Rattle.machine.specs.Runs.{State, Out, flagsIn, starts, stops, wordAt, orderAt, runs, runOf}

@@ -6,7 +6,7 @@ use mathlib.Core.List.{List}
 use mathlib.Core.Logic.{_⊎_}
 use lib.ListN.{length}
 use Rattle.decode.specs.declared.Decoded.{Decoded}
-use Rattle.decode.specs.declared.ops.Op.the-variants.{Unknown}
+use Rattle.encodings.specs.declared.ops.Op.the-variants.{Unknown}
 use Rattle.control.specs.declared.answers.Answer.{Answer}
 use Rattle.control.specs.declared.answers.Answer.the-variants.{Done, Spent, Misplaced, LongCode, BadStart, NoInstruction, Reserved, Outside}
 use Rattle.control.specs.declared.kinds.Kind.{Kind}

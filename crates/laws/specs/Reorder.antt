@@ -5,8 +5,8 @@ use mathlib.Core.Path.{_≡_}
 use mathlib.Core.Bool.{Bool, true, false}
 use mathlib.Core.List.{List, [], _∷_, _++_}
 use lib.ListN.{length, take, drop}
-use Rattle.decode.specs.Bits.{pick}
-use Rattle.decode.specs.Encodings.{opOf}
+use Rattle.encodings.specs.Bits.{pick}
+use Rattle.encodings.specs.Encodings.{opOf}
 use Rattle.decode.specs.Traits.{positionBound}
 use Rattle.lanes.specs.Order.{Bytes, reordered}
 use Rattle.machine.specs.declared.Machine.{Machine}

@@ -5,8 +5,8 @@ use mathlib.Core.Bool.{Bool}
 use mathlib.Core.List.{List}
 use lib.ListN.{getD}
 use lib.Dec.{eqb}
-use Rattle.decode.specs.declared.ops.Op.the-variants.{ToStatus}
-use Rattle.decode.specs.Encodings.{opOf}
+use Rattle.encodings.specs.declared.ops.Op.the-variants.{ToStatus}
+use Rattle.encodings.specs.Encodings.{opOf}
 use Rattle.lanes.specs.declared.Lane.{Lane}
 use Rattle.lanes.specs.declared.Op.{Op}
 use Rattle.lanes.specs.declared.Size.{Size}

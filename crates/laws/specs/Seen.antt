@@ -5,9 +5,9 @@ use mathlib.Core.Bool.{Bool, true, false, not, cond}
 use mathlib.Core.List.{List, [], _∷_, _++_}
 use lib.ListN.{replicate}
 use lib.Dec.{eqb}
-use Rattle.decode.specs.Bits.{pick}
-use Rattle.decode.specs.declared.ops.Op.{Op}
-use Rattle.decode.specs.Encodings.{Row, Section}
+use Rattle.encodings.specs.Bits.{pick}
+use Rattle.encodings.specs.declared.ops.Op.{Op}
+use Rattle.encodings.specs.Encodings.{Row, Section}
 use Rattle.decode.specs.Traits.{positionBound}
 use Rattle.lanes.specs.Words.{bytesOf}
 use Rattle.lines.specs.Lines.{sixteen}

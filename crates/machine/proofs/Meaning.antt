@@ -12,7 +12,7 @@ use Rattle.control.specs.declared.answers.Answer.{Answer}
 use Rattle.control.specs.declared.answers.Answer.the-variants.{Done, Spent}
 use Rattle.control.specs.declared.orders.Order.{Order}
 use Rattle.control.specs.Orders.{refuses, refusalOf, generalOf}
-use Rattle.effects.specs.declared.flags.Flags.{Flags}
+use Rattle.flags.specs.declared.Flags.{Flags}
 use Rattle.effects.specs.Effects.{Held, heldOf, effectOf}
 use Rattle.machine.specs.declared.walk.Walked.{Walked}
 use Rattle.machine.specs.Runs.{State, Out, Gives, machineOf, walkedOf, stops, wordAt, orderAt, next, runs}

@@ -4,7 +4,7 @@ use mathlib.Core.Path.{_≡_}
 use mathlib.Core.List.{List}
 use lib.ListN.{length, getD}
 use lib.Dec.{eqb, leb}
-use Rattle.decode.specs.Bits.{pick}
+use Rattle.encodings.specs.Bits.{pick}
 use Rattle.decode.specs.declared.Decoded.{Decoded}
 use Rattle.decode.specs.Decode.{decodeOf}
 use Rattle.control.specs.declared.answers.Answer.{Answer}
@@ -13,7 +13,7 @@ use Rattle.control.specs.declared.orders.Order.{Order}
 use Rattle.control.specs.Answers.{numberOf}
 use Rattle.control.specs.Addresses.{wellPlaced}
 use Rattle.control.specs.Orders.{orderOf, refuses, refusalOf, generalOf}
-use Rattle.effects.specs.declared.flags.Flags.{Flags}
+use Rattle.flags.specs.declared.Flags.{Flags}
 use Rattle.effects.specs.Effects.{Held, heldOf, effectOf}
 use Rattle.machine.specs.declared.walk.Report.{Report}
 use Rattle.machine.specs.declared.walk.Walked.{Walked}

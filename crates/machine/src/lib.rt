@@ -4,7 +4,7 @@ mod walk;
 pub use control::answers::Answer;
 pub use control::answers::number;
 use control::well_placed;
-use effects::Flags;
+use flags::Flags;
 pub use walk::Report;
 use walk::steps;
 ghost use mathlib.Core.Path.{_≡_};

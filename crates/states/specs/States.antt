@@ -7,8 +7,8 @@ use mathlib.Core.List.{List, [], _∷_, _++_}
 use lib.ListN.{length, getD, replicate}
 use lib.Dec.{eqb}
 use Rattle.lines.specs.Lines.{part}
-use Rattle.effects.specs.Flags.{statusOf, fromStatus}
-use Rattle.effects.specs.declared.flags.Flags.{Flags}
+use Rattle.flags.specs.Flags.{statusOf, fromStatus}
+use Rattle.flags.specs.declared.Flags.{Flags}
 use Rattle.machine.specs.declared.Machine.{Machine}
 use Rattle.machine.specs.Runs.{machineOf, flagsIn}
 use Rattle.texts.specs.Texts.{wordBytes}

@@ -1,7 +1,7 @@
 // The machine as bytes of a file, and back.
-use effects::Flags;
-use effects::from_status;
-use effects::status;
+use flags::Flags;
+use flags::from_status;
+use flags::status;
 use lines::load;
 use machine::Machine;
 use reading::words;

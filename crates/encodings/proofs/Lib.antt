@@ -1,0 +1,4 @@
+pub mod Arms
+pub mod Table
+pub mod Unique
+pub mod Words
