@@ -3,23 +3,15 @@
 //! line. The residual is the greatest distance of a sample from the polynomial, in units of the
 //! last place.
 
+mod sample;
+
 use card::{Answer, Machine};
-use std::path::Path;
 
 const LINES: i32 = 64;
 const LANES: i32 = 8;
 const LINE: usize = 16;
 const OFFSET_FROM: i32 = 56;
 const OFFSET: i16 = 4096;
-
-fn sample(name: &str) -> Vec<u8> {
-    std::fs::read(
-        Path::new(env!("CARGO_MANIFEST_DIR"))
-            .join("../../samples")
-            .join(name),
-    )
-    .unwrap()
-}
 
 fn half(memory: &[u8], at: usize) -> f64 {
     f64::from(i16::from_be_bytes([memory[at], memory[at + 1]]))
@@ -37,11 +29,8 @@ fn polynomial(memory: &[u8], sample: i16) -> f64 {
 }
 
 fn main() {
-    let code: Vec<u32> = sample("correction.bin")
-        .chunks_exact(4)
-        .map(|b| u32::from_be_bytes(b.try_into().unwrap()))
-        .collect();
-    let start = sample("correction.mem");
+    let code = sample::kernel();
+    let start = sample::bytes("correction.mem");
     let mut machine = Machine::new();
     let (mut worst, mut clipped) = (0f64, 0);
     for line in 0..LINES {

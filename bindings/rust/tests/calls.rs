@@ -1,29 +1,15 @@
 //! Calls of the archive from Rust: the layout, a kernel in one run, in steps and on several
 //! threads, every answer, and empty slices.
 
+#[path = "../examples/sample/mod.rs"]
+mod sample;
+
 use card::{Answer, Machine, Report, MEMORY_MAX, WORDS_MAX};
 use std::mem::{offset_of, size_of};
-use std::path::Path;
 use std::thread;
 
 const MEMORY: &str = "correction.mem";
 const EXPECTED: &str = "correction.expected";
-
-fn sample(name: &str) -> Vec<u8> {
-    std::fs::read(
-        Path::new(env!("CARGO_MANIFEST_DIR"))
-            .join("../../samples")
-            .join(name),
-    )
-    .unwrap()
-}
-
-fn kernel() -> Vec<u32> {
-    sample("correction.bin")
-        .chunks_exact(4)
-        .map(|b| u32::from_be_bytes(b.try_into().unwrap()))
-        .collect()
-}
 
 fn addi(d: u32, a: u32, n: u16) -> u32 {
     14 << 26 | d << 21 | a << 16 | u32::from(n)
@@ -67,22 +53,22 @@ fn a_new_machine_is_zero() {
 
 #[test]
 fn the_sample_leaves_what_is_expected() {
-    let (code, mut memory) = (kernel(), sample(MEMORY));
+    let (code, mut memory) = (sample::kernel(), sample::bytes(MEMORY));
     let mut m = Machine::new();
     assert_eq!(
         m.run(&code, &mut memory, 0, 0, 1000),
         ended(Answer::Done, 20, 20)
     );
-    assert_eq!(memory, sample(EXPECTED));
+    assert_eq!(memory, sample::bytes(EXPECTED));
     assert!(!m.sat);
     assert_eq!(m.vector(8), memory[..16]);
 }
 
 #[test]
 fn steps_leave_what_a_run_leaves() {
-    let code = kernel();
+    let code = sample::kernel();
     let (mut once, mut stepped) = (Machine::new(), Machine::new());
-    let (mut by_run, mut by_steps) = (sample(MEMORY), sample(MEMORY));
+    let (mut by_run, mut by_steps) = (sample::bytes(MEMORY), sample::bytes(MEMORY));
     once.run(&code, &mut by_run, 0, 0, 1000);
     for place in 0..20 {
         let answer = if place == 19 {
@@ -159,12 +145,12 @@ fn empty_slices_are_taken() {
 
 #[test]
 fn threads_do_not_meet() {
-    let code = kernel();
+    let code = sample::kernel();
     let work = |seed: u16| {
         let mut m = Machine::new();
         let mut left = Vec::new();
         for line in 0..500u16 {
-            let mut memory = sample(MEMORY);
+            let mut memory = sample::bytes(MEMORY);
             for (lane, at) in memory[..16].chunks_exact_mut(2).enumerate() {
                 at.copy_from_slice(
                     &(seed.wrapping_mul(4099) ^ (line * 8 + lane as u16)).to_be_bytes(),
