@@ -1,4 +1,6 @@
 // Many runs in one start, for the comparison with another emulator: cases in binary from standard input, a reply for each (docs/TESTING.md).
+#![tactic(auto)]
+
 ghost use Rattle.std.specs.Prelude.{◌<◌};
 
 use libc::{STDIN_FILENO, STDOUT_FILENO};

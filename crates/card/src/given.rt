@@ -9,13 +9,13 @@ use libc::STDERR_FILENO;
 use reading::numbers::{Number, read};
 
 // For each name the place of its argument, 0 where it is not given, in the order memory, state, memory-out, state-out, base, place, allowance.
-#[derive(Drop)]
+#[derive(Clone, Copy)]
 pub struct Given {
     pub good: bool,
     pub at: [usize; 7],
 }
 
-#[derive(Drop)]
+#[derive(Clone, Copy)]
 pub struct Numbers {
     pub good: bool,
     pub base: u32,
@@ -23,7 +23,7 @@ pub struct Numbers {
     pub allowance: u32,
 }
 
-#[derive(Drop)]
+#[derive(Clone, Copy)]
 struct Value {
     good: bool,
     n: u32,

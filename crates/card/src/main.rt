@@ -1,4 +1,6 @@
 // Runs a kernel file over a memory and a machine from files, prints what the run left, and writes it to files.
+#![tactic(auto)]
+
 mod given;
 mod help;
 mod loading;

@@ -1,4 +1,6 @@
 // The choice of a vector instruction by its operation, width and sign. Each reads its registers and writes register D for itself.
+#![tactic(auto)]
+
 ghost use Rattle.std.specs.Prelude.{◌<◌};
 ghost use Rattle.registers.specs.Registers.{at, Leaves};
 ghost use Rattle.compute.specs.Computed.{computed};

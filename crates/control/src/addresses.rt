@@ -5,7 +5,7 @@ ghost use Rattle.control.specs.Addresses.{or_zero, address_of, extended, sum_of,
 use encodings::ops::Width;
 
 // An item of the memory: where it starts, counted from the memory's first byte.
-#[derive(Drop)]
+#[derive(Clone, Copy)]
 pub enum Item {
     At(usize),
     Missing,

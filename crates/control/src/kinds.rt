@@ -4,7 +4,7 @@ ghost use Rattle.control.specs.Kinds.{kind_of, is_absent};
 
 use encodings::ops::{Op, Width};
 
-#[derive(Drop)]
+#[derive(Clone, Copy)]
 pub enum Kind {
     // No carried instruction.
     Absent,

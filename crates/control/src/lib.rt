@@ -1,5 +1,7 @@
 // CONTROL: what is to be done for a decoded word, from the general registers and where the memory lies.
 // It sees no vector, no byte of the memory, and neither SAT, NJ nor CR6.
+#![tactic(auto)]
+
 mod addresses;
 pub mod answers;
 mod kinds;

@@ -5,7 +5,7 @@ ghost use Rattle.control.specs.Orders.{refuses, refusal_of};
 use crate::answers::Answer;
 
 // What is to be done. The registers, and a vector instruction's operation, are those of the decoded word.
-#[derive(Drop)]
+#[derive(Clone, Copy)]
 pub enum Order {
     // Nothing: the run ends with this answer.
     Refuse(Answer),

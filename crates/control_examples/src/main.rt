@@ -1,4 +1,6 @@
 // Document 01's address examples and their neighbours: the order for a word, and general register D after it.
+#![tactic(auto)]
+
 ghost use Rattle.control.specs.Orders.{InFields};
 
 use control::answers::number;

@@ -1,4 +1,6 @@
 // The decoder: of every 32-bit word the instruction that it carries, its fields, and whether a reserved bit is set.
+#![tactic(auto)]
+
 pub mod reserved;
 pub mod traits;
 
@@ -11,7 +13,7 @@ use reserved::{any, clear};
 use traits::reserved;
 
 // A word taken apart.
-#[derive(Drop)]
+#[derive(Clone, Copy)]
 pub struct Decoded {
     // The operation; answer 5 where it is Unknown.
     pub op: Op,

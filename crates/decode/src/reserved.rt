@@ -2,7 +2,7 @@
 ghost use Rattle.std.specs.Prelude.{◌≡◌};
 ghost use Rattle.decode.specs.Reserved.{any_of, without};
 
-#[derive(Drop)]
+#[derive(Clone, Copy)]
 pub enum Run {
     // No bit.
     Empty,

@@ -6,7 +6,7 @@ use crate::reserved::Run;
 use encodings::ops::{Op, Width};
 
 // Whether the vectors A, B, C and D are read, and whether D is written.
-#[derive(Drop)]
+#[derive(Clone, Copy)]
 struct Vectors(bool, bool, bool, bool, bool);
 
 // No vector.
@@ -35,7 +35,7 @@ const BOUND: bool = true;
 const FREE: bool = false;
 
 // The vectors, whether it can set SAT by clipping, whether it is position-bound, its reserved bits.
-#[derive(Drop)]
+#[derive(Clone, Copy)]
 struct Traits(Vectors, bool, bool, Run);
 
 // The bits of A before a splat's lane number.

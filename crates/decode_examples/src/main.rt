@@ -1,6 +1,8 @@
 // Prints a list of words, decoded: a line a word, with its mnemonic, its fields, its traits and the word with its reserved bits cleared.
 // The stored list has each of the 132 instructions with its fields, each reserved bit alone, codes beside a carried one that are not carried,
 // and some words with all other bits set.
+#![tactic(auto)]
+
 ghost use Rattle.std.specs.Prelude.{◌<◌};
 
 use encodings::ops::{Op, Sign, Width};

@@ -1,4 +1,6 @@
 // DATA: what an order does to the vectors, the flags and the memory. It sees no general register and no address.
+#![tactic(auto)]
+
 ghost use Rattle.std.specs.Prelude.{◌≡◌, ◌*◌, length};
 ghost use Rattle.lines.specs.Lines.{put};
 ghost use Rattle.control.specs.Orders.{InFields, Reaches};

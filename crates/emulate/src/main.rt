@@ -1,4 +1,6 @@
 // Document 01's printing program: code from standard input, a run from a machine of zeros with no memory, and the lines that it leaves.
+#![tactic(auto)]
+
 use libc::{STDIN_FILENO, STDOUT_FILENO};
 use machine::Machine;
 

@@ -1,4 +1,6 @@
 // Which instruction a word carries: document 01, "Encodings".
+#![tactic(auto)]
+
 pub mod ops;
 
 ghost use Rattle.std.specs.Prelude.{◌≡◌, ◌*◌, ◌%◌, ◌<◌};

@@ -1,7 +1,7 @@
 // The instructions of document 01 by families; where a family has several widths or signs, its variant holds them.
 
 // How wide a lane is.
-#[derive(Drop)]
+#[derive(Clone, Copy)]
 pub enum Width {
     Byte,
     Half,
@@ -9,13 +9,13 @@ pub enum Width {
 }
 
 // How a lane is read.
-#[derive(Drop)]
+#[derive(Clone, Copy)]
 pub enum Sign {
     Unsigned,
     Signed,
 }
 
-#[derive(Drop)]
+#[derive(Clone, Copy)]
 pub enum Op {
     // No carried instruction.
     Unknown,

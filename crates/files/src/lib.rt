@@ -1,11 +1,13 @@
 // Files, whole. What goes wrong is told on standard error, in a line that names the file.
+#![tactic(auto)]
+
 ghost use Rattle.io.specs.Counts.{IsPrefixLen};
 
 use libc::STDERR_FILENO;
 use texts::{add, add_hex};
 
 // Whether all was read, and how many bytes it had.
-#[derive(Drop)]
+#[derive(Clone, Copy)]
 pub struct Got {
     pub good: bool,
     pub count: usize,

@@ -1,4 +1,6 @@
 // NJ, SAT and CR6: document 01, "Lane rules".
+#![tactic(auto)]
+
 ghost use Rattle.std.specs.Prelude.{◌≡◌, true, cond, ◌&&◌};
 ghost use Rattle.flags.specs.Flags.{compares, status_of, from_status, marked_of, summary_of, recorded_of};
 
@@ -6,7 +8,7 @@ use encodings::ops::Op;
 use groups::summary::{all_true, none_true};
 
 // The bits that an instruction can leave beside a vector. CR6 is a number of four bits.
-#[derive(Drop)]
+#[derive(Clone, Copy)]
 pub struct Flags {
     pub nj: bool,
     pub sat: bool,

@@ -1,4 +1,6 @@
 // Lanes next to each other: read off three vectors, an operation at four of them, and the results side by side in a vector.
+#![tactic(auto)]
+
 pub mod at_four;
 pub mod at_short;
 pub mod join;
@@ -8,7 +10,7 @@ pub mod summary;
 use lanes::{Lane, Operands};
 
 // Four lanes of a vector next to each other.
-#[derive(Drop)]
+#[derive(Clone, Copy)]
 pub struct Four {
     pub l0: u64,
     pub l1: u64,
@@ -17,7 +19,7 @@ pub struct Four {
 }
 
 // What an operation is given at four lanes next to each other.
-#[derive(Drop)]
+#[derive(Clone, Copy)]
 pub struct Fours {
     pub l0: Operands,
     pub l1: Operands,
@@ -26,13 +28,13 @@ pub struct Fours {
 }
 
 // And at the eight halves of three vectors, and at their sixteen bytes.
-#[derive(Drop)]
+#[derive(Clone, Copy)]
 pub struct Halves {
     pub h0: Fours,
     pub h1: Fours,
 }
 
-#[derive(Drop)]
+#[derive(Clone, Copy)]
 pub struct Bytes {
     pub q0: Fours,
     pub q1: Fours,
@@ -41,7 +43,7 @@ pub struct Bytes {
 }
 
 // The results at four lanes next to each other.
-#[derive(Drop)]
+#[derive(Clone, Copy)]
 pub struct FourLanes {
     pub l0: Lane,
     pub l1: Lane,
@@ -51,7 +53,7 @@ pub struct FourLanes {
 
 // The fast form of halves, which the compiler works on all at once: the halves of a vector as they are stored, those of three vectors, and what an operation gives
 // at one of them.
-#[derive(Drop)]
+#[derive(Clone, Copy)]
 pub struct Eight {
     pub h0: u16,
     pub h1: u16,
@@ -63,14 +65,14 @@ pub struct Eight {
     pub h7: u16,
 }
 
-#[derive(Drop)]
+#[derive(Clone, Copy)]
 pub struct Shorts {
     pub x: Eight,
     pub y: Eight,
     pub z: Eight,
 }
 
-#[derive(Drop)]
+#[derive(Clone, Copy)]
 pub struct Short {
     pub value: u16,
     pub clipped: bool,

@@ -1,4 +1,6 @@
 // The hot operations at a half, in 32 bits: there the compiler works on eight halves at once, and in 64 bits it does not.
+#![tactic(auto)]
+
 ghost use Rattle.std.specs.Prelude.{◌≡◌, ◌<◌, pos, neg_ℤ};
 ghost use Rattle.lanes.specs.Integer.{signed, clamp, sat_s};
 ghost use Rattle.lanes.specs.Width.{InLane, lane_of};

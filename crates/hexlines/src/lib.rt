@@ -1,4 +1,6 @@
 // Lines of hex for the programs that print examples: an instruction's name with the bytes it gave, and its marks on a line of their own.
+#![tactic(auto)]
+
 use lanes::Marked;
 use texts::add_hex;
 

@@ -1,5 +1,7 @@
 // What hosts in C and Rust call: a machine to begin with, and the run and the step on a machine that the host keeps.
 // include/card.h says it in C. A slice crosses as its address and its length.
+#![tactic(auto)]
+
 ghost use Rattle.std.specs.Prelude.{◌≡◌};
 ghost use Rattle.machine.specs.Runs.{run_of};
 ghost use Rattle.states.specs.States.{at_rest};
@@ -10,7 +12,7 @@ use states::at_rest;
 
 // How a run ended, by the number of its answer; the words completed; the place of the next word.
 #[repr(C)]
-#[derive(Drop)]
+#[derive(Clone, Copy)]
 pub struct CardReport {
     pub answer: u32,
     pub count: u32,
@@ -18,7 +20,7 @@ pub struct CardReport {
 }
 
 // What a run leaves.
-#[derive(Drop)]
+#[derive(Clone, Copy)]
 struct Left {
     report: CardReport,
     m: Machine,

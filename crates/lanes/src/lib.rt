@@ -1,9 +1,11 @@
 // What an operation does to a lane of 8, 16 or 32 bits: the definitions, and each operation at one lane.
+#![tactic(auto)]
+
 pub mod at_lane;
 pub mod exact;
 
 // The operations of the instructions on lanes, in the order of document 01, "Encodings". U and S: the lanes are unsigned, signed.
-#[derive(Drop)]
+#[derive(Clone, Copy)]
 pub enum Op {
     AddModulo,
     AddCarry,
@@ -52,7 +54,7 @@ pub enum Op {
 }
 
 // The widths of a lane: 8, 16 and 32 bits.
-#[derive(Drop)]
+#[derive(Clone, Copy)]
 pub enum Size {
     Byte,
     Half,
@@ -60,14 +62,14 @@ pub enum Size {
 }
 
 // A lane of a result, and whether the exact result had to be moved to fit.
-#[derive(Drop)]
+#[derive(Clone, Copy)]
 pub struct Lane {
     pub value: u64,
     pub clipped: bool,
 }
 
 // What an operation is given at a lane.
-#[derive(Drop)]
+#[derive(Clone, Copy)]
 pub struct Operands {
     pub x: u64,
     pub y: u64,
@@ -75,7 +77,7 @@ pub struct Operands {
 }
 
 // A vector, with a mark for each lane that was clipped: bit i is lane i, and lane 0 is the leftmost.
-#[derive(Drop)]
+#[derive(Clone, Copy)]
 pub struct Marked {
     pub bytes: [u8; 16],
     pub marks: u32,

@@ -1,4 +1,6 @@
 // Sixteen bytes of a list at a place: a vector register of the flat array, or a line of the memory; and the elements of a line.
+#![tactic(auto)]
+
 ghost use Rattle.std.specs.Prelude.{◌≡◌, ◌+◌, ◌*◌, ◌≤◌, ◌<◌, length};
 ghost use Rattle.lines.specs.Lines.{sixteen, put, loaded_of, stored_of};
 

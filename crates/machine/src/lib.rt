@@ -1,4 +1,6 @@
 // The machine: 32 vectors, 32 general registers, NJ, SAT and CR6; the run, the step, and the step in place.
+#![tactic(auto)]
+
 mod walk;
 
 ghost use Rattle.std.specs.Prelude.{◌≡◌};
@@ -12,7 +14,7 @@ use walk::steps;
 
 // Vector n is bytes 16 n to 16 n + 15 of v. CR6 is a number of four bits. The layout is C's, so that hosts can keep one.
 #[repr(C)]
-#[derive(Drop)]
+#[derive(Clone, Copy)]
 pub struct Machine {
     pub v: [u8; 512],
     pub g: [u32; 32],
@@ -22,7 +24,7 @@ pub struct Machine {
 }
 
 // What a run hands back: how it ended, and the machine.
-#[derive(Drop)]
+#[derive(Clone, Copy)]
 pub struct Ran {
     pub report: Report,
     pub m: Machine,

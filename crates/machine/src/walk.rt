@@ -11,14 +11,14 @@ use effects::effect;
 use flags::Flags;
 
 // How a run ended, the words completed, and the place of the next word.
-#[derive(Drop)]
+#[derive(Clone, Copy)]
 pub struct Report {
     pub answer: Answer,
     pub count: u32,
     pub place: u32,
 }
 
-#[derive(Drop)]
+#[derive(Clone, Copy)]
 pub struct Walked {
     pub report: Report,
     pub flags: Flags,

@@ -1,4 +1,6 @@
 // Runs of the machine: document 01's address examples, where a run stops, and small kernels over memory.
+#![tactic(auto)]
+
 mod kernels;
 mod limits;
 mod show;

@@ -1,4 +1,6 @@
 // The instructions that choose bytes or bits of registers, on vectors of 16 bytes.
+#![tactic(auto)]
+
 mod merges;
 mod permutes;
 mod shifts;

@@ -1,5 +1,7 @@
 // Runs every instruction that carries lanes across words on six sets of operands, and the documents' examples that concern them,
 // and prints what each gives.
+#![tactic(auto)]
+
 use hexlines::{marked, show};
 
 fn chosen(a: [u8; 16], b: [u8; 16], c: [u8; 16]) {

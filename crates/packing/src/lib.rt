@@ -1,4 +1,6 @@
 // The instructions that make new lanes across words, on vectors of 16 bytes: packs, unpacks, and the two sums across words.
+#![tactic(auto)]
+
 mod marks;
 mod packs;
 mod sums;

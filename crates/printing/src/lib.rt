@@ -1,4 +1,6 @@
 // What a run left, on standard output: the lines of document 01, and one for each general register.
+#![tactic(auto)]
+
 use groups::summary::none_true;
 use libc::STDOUT_FILENO;
 use machine::{Machine, Report, number};

@@ -1,4 +1,6 @@
 // What the programs read: raw bytes as words, and text as numbers.
+#![tactic(auto)]
+
 pub mod numbers;
 
 ghost use Rattle.std.specs.Prelude.{◌+◌, ◌*◌, ◌<◌, ◌≡◌};
@@ -6,7 +8,7 @@ ghost use Rattle.reading.specs.Words.{word_of, Fills};
 ghost use Rattle.lines.specs.Lines.{Counts};
 
 // Whether bytes were whole words, and how many.
-#[derive(Drop)]
+#[derive(Clone, Copy)]
 pub struct Filled {
     pub good: bool,
     pub count: usize,

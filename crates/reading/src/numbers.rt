@@ -2,7 +2,7 @@
 ghost use Rattle.std.specs.Prelude.{◌+◌, ◌*◌, ◌≤◌, ◌<◌, ◌≡◌};
 ghost use Rattle.reading.specs.Numbers.{digit_of, capped_of, some_digits, is_hex, read_of};
 
-#[derive(Drop)]
+#[derive(Clone, Copy)]
 pub enum Number {
     Value(u32),
     // No digits, or one that is none.

@@ -1,4 +1,6 @@
 // Rotates, shifts, bitwise instructions, immediate splats and compares on registers: A, B and C are read, as far as the instruction has them, it is carried out, and D is written.
+#![tactic(auto)]
+
 ghost use Rattle.std.specs.Prelude.{◌≡◌, ◌<◌};
 ghost use Rattle.lanes.specs.Operations.{applied};
 ghost use Rattle.vector.specs.Copies.{copies};

@@ -1,4 +1,6 @@
 // The instructions on registers that carry lanes across words: A, B and C are read, as far as the instruction has them, it is carried out, and D is written.
+#![tactic(auto)]
+
 mod making;
 
 ghost use Rattle.std.specs.Prelude.{◌<◌, ◌%◌};

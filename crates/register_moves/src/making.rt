@@ -6,7 +6,7 @@ ghost use Rattle.register_moves.specs.Made.{made};
 use lanes::{Marked, Size};
 use registers::{write, write_bare};
 
-#[derive(Drop)]
+#[derive(Clone, Copy)]
 pub enum Way {
     MergeHigh,
     MergeLow,

@@ -1,4 +1,6 @@
 // Products, sums of them, and sums within a word on registers: A, B and C are read, as far as the instruction has them, it is carried out, and D is written.
+#![tactic(auto)]
+
 ghost use Rattle.std.specs.Prelude.{◌<◌};
 ghost use Rattle.registers.specs.Registers.{of_two, of_three, Leaves};
 

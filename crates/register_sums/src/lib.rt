@@ -1,4 +1,6 @@
 // Sums, differences, maxima, minima and averages on registers: A and B are read, the instruction is carried out, and D is written.
+#![tactic(auto)]
+
 ghost use Rattle.std.specs.Prelude.{◌<◌};
 ghost use Rattle.registers.specs.Registers.{of_two, Leaves};
 

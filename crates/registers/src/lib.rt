@@ -1,5 +1,7 @@
 // A result goes into a register of the machine's vectors, which are lent: every vector instruction ends here. All sources are read before.
 // Vector n is bytes 16 n to 16 n + 15 of v. What is returned are the marks.
+#![tactic(auto)]
+
 ghost use Rattle.std.specs.Prelude.{◌≡◌, false, ◌<◌};
 ghost use Rattle.lanes.specs.Operations.{applied, clips};
 ghost use Rattle.registers.specs.Registers.{at, bare, of_three, Leaves, Holds};

@@ -1,4 +1,6 @@
 // The instructions that slide one vector into another by whole bytes, on vectors of 16 bytes.
+#![tactic(auto)]
+
 mod places;
 
 ghost use Rattle.std.specs.Prelude.{◌≡◌, ◌%◌, ◌<◌};

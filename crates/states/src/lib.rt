@@ -1,4 +1,6 @@
 // The machine as bytes of a file, and back.
+#![tactic(auto)]
+
 ghost use Rattle.std.specs.Prelude.{◌+◌, ◌*◌, ◌/◌, ◌%◌, ◌≤◌, ◌≡◌, ◌++◌, length};
 ghost use Rattle.lines.specs.Lines.{part};
 ghost use Rattle.reading.specs.Words.{words_of};
@@ -12,7 +14,7 @@ use reading::words;
 use texts::{add, add_words};
 
 // A machine, and whether there were bytes for it.
-#[derive(Drop)]
+#[derive(Clone, Copy)]
 pub struct Loaded {
     pub good: bool,
     pub m: Machine,

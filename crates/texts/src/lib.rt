@@ -1,4 +1,6 @@
 // The lines that the programs print, made in a buffer that is lent, and what they are made of: document 01, "Examples to hold against the rules".
+#![tactic(auto)]
+
 mod adding;
 mod digits;
 

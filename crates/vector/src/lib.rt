@@ -1,5 +1,7 @@
 // The word-wise instructions by name: each lane of the result is the operation at the lanes of the operands.
 // An operation that looks at fewer than three operands is given the last one again.
+#![tactic(auto)]
+
 ghost use Rattle.std.specs.Prelude.{◌≡◌};
 ghost use Rattle.lanes.specs.Operations.{applied};
 ghost use Rattle.vector.specs.Copies.{copies};

@@ -1,4 +1,6 @@
 // Runs every word-wise instruction on four sets of operands, and document 01's examples that concern them, and prints what each gives.
+#![tactic(auto)]
+
 use hexlines::{marked, show};
 
 fn group_0(a: [u8; 16], b: [u8; 16], c: [u8; 16], i: u8) {
