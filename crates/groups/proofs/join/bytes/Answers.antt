@@ -4,19 +4,15 @@ use Rattle.groups.proofs.Beside.{four_below, bytes_of_bytes}
 use Rattle.groups.proofs.Places.{Fit, fit, in_bytes, there}
 use Rattle.lanes.specs.declared.Size.TheVariants.{Byte}
 use borrow.Author.Rules.{rules}
-use Rattle.groups.proofs.join.bytes.Statement.{statement}
-use Rattle.groups.proofs.join.bytes.Tie as tie
+use Rattle.groups.proofs.join.bytes.Goals as goal
 
-bytes-of-bytes-requires : tie.Need-bytes-of-bytes-requires
-bytes-of-bytes-requires c κs = search rules
-
-returns : tie.Need-returns
-returns c = let s = c.before in
+pub returns : goal.returns
+returns c = let s = c in
     let a = s.args in
     let p = s.requires in
-    let fa : Fit a.a = fit a.a s.well-formed.1.0.0 s.well-formed.1.0.1.1 in
-    let fb : Fit a.b = fit a.b s.well-formed.1.1.0.0 s.well-formed.1.1.0.1.1 in
-    let fc : Fit a.c = fit a.c s.well-formed.1.1.1.0.0 s.well-formed.1.1.1.0.1.1 in
+    let fa : Fit a.a = fit a.a s.well_formed.1.0.0 s.well_formed.1.0.1.1 in
+    let fb : Fit a.b = fit a.b s.well_formed.1.1.0.0 s.well_formed.1.1.0.1.1 in
+    let fc : Fit a.c = fit a.c s.well_formed.1.1.1.0.0 s.well_formed.1.1.1.0.1.1 in
     let word = in_bytes a.op a.a a.b a.c fa fb fc in
     rw (
       word 0,
@@ -41,6 +37,3 @@ returns c = let s = c.before in
       there Byte a.op a.a a.b a.c 15 p.0.fourth.at3 p.4.is3,
     )
     (bytes_of_bytes a.p a.q a.r a.t (four_below p.0.first.inside p.1) (four_below p.0.second.inside p.2) (four_below p.0.third.inside p.3) (four_below p.0.fourth.inside p.4) c.bytes_of_bytes.ensures)
-
-pub bytes-spec : {M : Type 1} → statement M
-bytes-spec = tie.close (tie.spec bytes-of-bytes-requires returns)

@@ -1,10 +1,9 @@
 -- `groups::split::beside` meets its contract.
 -- Assumes nothing.
 use Rattle.lanes.proofs.Sizes.{width_of_lem}
-use Rattle.groups.proofs.split.beside.Statement.{statement}
-use Rattle.groups.proofs.split.beside.Tie as tie
+use Rattle.groups.proofs.split.beside.Goals as goal
 
-returns : tie.Need-returns
+pub returns : goal.returns
 returns c = let w = width_of_lem c.args.size in
     let x = c.requires.0 in
     let y = c.requires.1 in
@@ -21,6 +20,3 @@ returns c = let w = width_of_lem c.args.size in
         in3 = record { width = w; left = x.in3; right = y.in3; third = z.in3 };
       };
     }
-
-pub beside-spec : {M : Type 1} → statement M
-beside-spec = tie.close (tie.spec returns)

@@ -4,19 +4,15 @@ use Rattle.groups.proofs.Beside.{four_below, bytes_of_words}
 use Rattle.groups.proofs.Places.{Fit, fit, in_word, there}
 use Rattle.lanes.specs.declared.Size.TheVariants.{Word}
 use borrow.Author.Rules.{rules}
-use Rattle.groups.proofs.join.words.Statement.{statement}
-use Rattle.groups.proofs.join.words.Tie as tie
+use Rattle.groups.proofs.join.words.Goals as goal
 
-bytes-of-words-requires : tie.Need-bytes-of-words-requires
-bytes-of-words-requires c κs = search rules
-
-returns : tie.Need-returns
-returns c = let s = c.before in
+pub returns : goal.returns
+returns c = let s = c in
     let a = s.args in
     let p = s.requires in
-    let fa : Fit a.a = fit a.a s.well-formed.1.0.0 s.well-formed.1.0.1.1 in
-    let fb : Fit a.b = fit a.b s.well-formed.1.1.0.0 s.well-formed.1.1.0.1.1 in
-    let fc : Fit a.c = fit a.c s.well-formed.1.1.1.0.0 s.well-formed.1.1.1.0.1.1 in
+    let fa : Fit a.a = fit a.a s.well_formed.1.0.0 s.well_formed.1.0.1.1 in
+    let fb : Fit a.b = fit a.b s.well_formed.1.1.0.0 s.well_formed.1.1.0.1.1 in
+    let fc : Fit a.c = fit a.c s.well_formed.1.1.1.0.0 s.well_formed.1.1.1.0.1.1 in
     let word = in_word a.op a.a a.b a.c fa fb fc in
     rw (
       word 0,
@@ -29,6 +25,3 @@ returns c = let s = c.before in
       there Word a.op a.a a.b a.c 12 p.0.at3 p.1.is3,
     )
     (bytes_of_words a.p (four_below p.0.inside p.1) c.bytes_of_words.ensures)
-
-pub words-spec : {M : Type 1} → statement M
-words-spec = tie.close (tie.spec bytes-of-words-requires returns)

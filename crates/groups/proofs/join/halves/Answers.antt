@@ -4,19 +4,15 @@ use Rattle.groups.proofs.Beside.{four_below, bytes_of_halves}
 use Rattle.groups.proofs.Places.{Fit, fit, in_halves, there}
 use Rattle.lanes.specs.declared.Size.TheVariants.{Half}
 use borrow.Author.Rules.{rules}
-use Rattle.groups.proofs.join.halves.Statement.{statement}
-use Rattle.groups.proofs.join.halves.Tie as tie
+use Rattle.groups.proofs.join.halves.Goals as goal
 
-bytes-of-halves-requires : tie.Need-bytes-of-halves-requires
-bytes-of-halves-requires c κs = search rules
-
-returns : tie.Need-returns
-returns c = let s = c.before in
+pub returns : goal.returns
+returns c = let s = c in
     let a = s.args in
     let p = s.requires in
-    let fa : Fit a.a = fit a.a s.well-formed.1.0.0 s.well-formed.1.0.1.1 in
-    let fb : Fit a.b = fit a.b s.well-formed.1.1.0.0 s.well-formed.1.1.0.1.1 in
-    let fc : Fit a.c = fit a.c s.well-formed.1.1.1.0.0 s.well-formed.1.1.1.0.1.1 in
+    let fa : Fit a.a = fit a.a s.well_formed.1.0.0 s.well_formed.1.0.1.1 in
+    let fb : Fit a.b = fit a.b s.well_formed.1.1.0.0 s.well_formed.1.1.0.1.1 in
+    let fc : Fit a.c = fit a.c s.well_formed.1.1.1.0.0 s.well_formed.1.1.1.0.1.1 in
     let word = in_halves a.op a.a a.b a.c fa fb fc in
     rw (
       word 0,
@@ -33,6 +29,3 @@ returns c = let s = c.before in
       there Half a.op a.a a.b a.c 14 p.0.right.at3 p.2.is3,
     )
     (bytes_of_halves a.p a.q (four_below p.0.left.inside p.1) (four_below p.0.right.inside p.2) c.bytes_of_halves.ensures)
-
-pub halves-spec : {M : Type 1} → statement M
-halves-spec = tie.close (tie.spec bytes-of-halves-requires returns)
