@@ -1,5 +1,5 @@
 -- The result of an operation on vectors: its words are words, and it has no mark where the operation cannot clip. Assumes nothing.
-use Rattle.std.proofs.Common.{◌≡◌, ℕ, zero, suc, ◌/◌, ◌%◌, ◌^◌, ◌<◌, true, false, List, refl, true≢false, mod-lt, mul-zero, arith, pow_pos}
+use Rattle.std.proofs.Common.{◌≡◌, ℕ, zero, suc, ◌/◌, ◌%◌, ◌^◌, ◌<◌, false, List, refl, true≢false, mod-lt, mul-zero, arith, pow_pos}
 use Rattle.lanes.specs.declared.Lane.{Lane}
 use Rattle.lanes.specs.declared.Op.{Op}
 use Rattle.lanes.specs.declared.Op.TheVariants.{AddModulo, AddCarry, AddSatU, AddSatS, SubModulo, SubCarry, SubSatU, SubSatS, MaxU, MaxS, MinU, MinS, AvgU, AvgS, RotateLeft, ShiftLeft, ShiftRight, ShiftRightAlgebraic, And, AndNot, Or, Xor, Nor, MulOddU, MulOddS, MulEvenU, MulEvenS, SumBytesU, SumBytesS, SumHalvesS, SplatImmediate, Equal, GreaterU, GreaterS, MulHighAdd, MulHighRoundAdd, MulLowAdd, MulSumBytesU, MulSumBytesMixed, MulSumHalvesU, MulSumHalvesSatU, MulSumHalvesS, MulSumHalvesSatS, Select}

@@ -1,0 +1,12 @@
+-- `lanes::exact::product_mixed` meets its contract.
+-- Assumes nothing.
+use Rattle.lanes.proofs.Known.{lane, nat, times, fits, kept}
+use Rattle.std.proofs.Common.{◌^◌, arith, w64}
+use Rattle.lanes.proofs.exact.product_mixed.Goals as goal
+
+pub overflow_mul-result : goal.overflow_mul-result
+overflow_mul-result c = fits w64 (times (lane w64 (2 ^ 8) c.read.ensures (omega arith) (omega arith) tt) (nat w64 c.args.q (2 ^ 8) (omega arith) tt)) tt
+
+pub returns : goal.returns
+returns c = let k = kept w64 (times (lane w64 (2 ^ 8) c.read.ensures (omega arith) (omega arith) tt) (nat w64 c.args.q (2 ^ 8) (omega arith) tt)) tt in
+    (k.is, rw k.is (omega (arith, k.small)))

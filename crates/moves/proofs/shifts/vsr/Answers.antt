@@ -1,0 +1,11 @@
+-- `moves::shifts::vsr` meets its contract.
+-- Assumes nothing.
+use native.Mathlib.Omega.{arith}
+use mathlib.Core.Path.{◌∙◌}
+use Rattle.moves.proofs.Shifted.{right}
+use Rattle.groups.proofs.Places.{fit}
+use borrow.Author.Rules.{rules}
+use Rattle.moves.proofs.shifts.vsr.Goals as goal
+
+pub returns : goal.returns
+returns c = rw (← c.bits.ensures.0) (c.window.ensures ∙ right c.args.a (fit c.args.a c.well_formed.0.0 c.well_formed.0.1.1) c.bits.result (omega arith))

@@ -1,0 +1,7 @@
+-- `registers::copy` meets its contract.
+-- Assumes nothing.
+use borrow.Author.Rules.{rules}
+use Rattle.registers.proofs.copy.Goals as goal
+
+pub returns : goal.returns
+returns c = rw (← c.vector-x.ensures) c.write_bare.ensures

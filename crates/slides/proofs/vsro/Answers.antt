@@ -1,0 +1,7 @@
+-- `slides::vsro` meets its contract.
+-- Assumes nothing.
+use borrow.Author.Rules.{rules}
+use Rattle.slides.proofs.vsro.Goals as goal
+
+pub returns : goal.returns
+returns c = rw (← c.bytes_in.ensures.0) c.slide.ensures

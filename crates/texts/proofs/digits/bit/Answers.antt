@@ -1,0 +1,10 @@
+-- `texts::digits::bit` meets its contract.
+-- Assumes nothing.
+
+use Rattle.texts.proofs.digits.bit.Goals as goal
+
+pub returns-then-b : goal.returns-then-b
+returns-then-b c = rw c.if-b.true
+
+pub returns : goal.returns
+returns c = rw c.if-b.false
