@@ -1,5 +1,5 @@
 // What hosts in C and Rust call: a machine to begin with, and the run and the step on a machine that the host keeps.
-// include/card.h says it in C. A slice crosses as its address and its length.
+// include/card.h says it in C, and the crate host_c gives it to C in an archive.
 #![tactic(auto)]
 
 ghost use Rattle.std.specs.Prelude.{◌≡◌};
@@ -27,6 +27,7 @@ struct Left {
 }
 
 // A machine with all registers and bits zero.
+#[tactic(auto, unfolding(states::specs::States::at_rest))]
 #[unsafe(no_mangle)]
 pub extern "C" fn card_new() -> Machine
     ensures { result ≡ at_rest }
