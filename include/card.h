@@ -1,7 +1,7 @@
 /*
  * The card: an emulator of an AltiVec machine, for hosts in C11 or C++11 on x86-64 Linux.
  *
- * `rt staticlib host` makes the archive. Of the C library it needs memcpy and memset alone:
+ * `tools/archive` makes the archive. Of the C library it needs memcpy and memset alone:
  *
  *     cc -O2 -Iinclude host.c target/staticlib/libhost.a -o host
  *

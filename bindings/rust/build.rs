@@ -1,4 +1,4 @@
-//! Links the archive that `rt staticlib host` makes at the repository's root.
+//! Links the archive that `tools/archive` makes at the repository's root.
 
 use std::env;
 use std::path::Path;
@@ -9,7 +9,7 @@ fn main() {
     let archive = folder.join("libhost.a");
     assert!(
         archive.exists(),
-        "{} is missing: run `rt staticlib host` at the repository's root",
+        "{} is missing: run `tools/archive` at the repository's root",
         archive.display()
     );
     assert!(
