@@ -1,0 +1,13 @@
+-- `states::generals` meets its contract.
+-- Assumes nothing.
+use Rattle.states.proofs.Whole.{thirty_two}
+use Rattle.lines.specs.Lines.{part}
+use lib.Seq.{length-take-le}
+use lib.ListN.{take, drop, length-drop}
+use native.Mathlib.Omega.{arith}
+use borrow.Author.Rules.{rules}
+use Rattle.states.proofs.generals.Goals as goal
+
+pub returns : goal.returns
+unfolding part
+returns c = thirty_two (take 128 (drop 528 c.args.bytes.now)) _ _ (length-take-le 128 (drop 528 c.args.bytes.now) (simp length-drop (omega arith))) c.words.ensures.fills

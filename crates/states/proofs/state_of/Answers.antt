@@ -1,0 +1,9 @@
+-- `states::state_of` meets its contract.
+-- Assumes nothing.
+use Rattle.states.specs.States.{state_of}
+use borrow.Author.Rules.{rules}
+use Rattle.states.proofs.state_of.Goals as goal
+
+pub returns : goal.returns
+unfolding state_of
+returns c = rw c.status-x.ensures at c.join.ensures
