@@ -1,6 +1,6 @@
 -- SAT, EXACTLY: a result has no mark exactly where every exact result was in range (`no_mark`), and SAT is off after a completed word exactly
 -- where mtvscr wrote a zero, or SAT was off and every exact result was in range (`sat_exactly`). Assumes nothing.
-use Prim.Native.Nat.{ℕ, zero, suc, ◌+◌, ◌*◌, ◌^◌, ◌<◌}
+use Prim.Native.Nat.{ℕ, zero, suc, ◌*◌, ◌^◌, ◌<◌}
 use mathlib.Core.Path.{◌≡◌, refl, sym, ap, ◌∙◌}
 use mathlib.Core.Bool.{Bool, true, false, cond, true≢false, ◌||◌}
 use mathlib.Core.List.{List}

@@ -1,7 +1,6 @@
 -- `compute::compute` meets its contract: at each leaf, what the instruction left is what `computed` says of its operation.
 -- Assumes nothing.
 use Rattle.compute.specs.Computed.{computed}
-use borrow.Author.Rules.{rules}
 use Rattle.compute.proofs.compute.Goals as goal
 
 pub copy-requires : goal.copy-requires

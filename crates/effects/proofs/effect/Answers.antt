@@ -1,7 +1,6 @@
 -- `effects::effect` meets its contract.
 -- Assumes nothing.
 use native.Mathlib.Omega.{arith}
-use borrow.Author.Rules.{rules}
 use Rattle.effects.proofs.effect.Goals as goal
 
 pub overflow_cast-s : goal.overflow_cast-s

@@ -1,6 +1,5 @@
 -- `flags::is_compare` meets its contract: in each arm the operation is known.
 -- Assumes nothing.
-use borrow.Author.Rules.{rules}
 use Rattle.flags.proofs.is_compare.Goals as goal
 
 pub returns-in-Unknown : goal.returns-in-Unknown

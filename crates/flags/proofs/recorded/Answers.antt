@@ -1,7 +1,6 @@
 -- `flags::recorded` meets its contract.
 -- Assumes nothing.
 use Rattle.flags.specs.Flags.{recorded_of}
-use borrow.Author.Rules.{rules}
 use Rattle.flags.proofs.recorded.Goals as goal
 
 pub returns : goal.returns

@@ -1,6 +1,5 @@
 -- `flags::records` meets its contract.
 -- Assumes nothing.
-use borrow.Author.Rules.{rules}
 use Rattle.flags.proofs.records.Goals as goal
 
 pub returns-then-rc : goal.returns-then-rc

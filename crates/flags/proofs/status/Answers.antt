@@ -1,7 +1,6 @@
 -- `flags::status` meets its contract.
 -- Assumes nothing.
 use Rattle.flags.specs.Flags.{status_of}
-use borrow.Author.Rules.{rules}
 use Rattle.flags.proofs.status.Goals as goal
 
 pub returns : goal.returns

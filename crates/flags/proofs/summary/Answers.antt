@@ -1,7 +1,6 @@
 -- `flags::summary` meets its contract.
 -- Assumes nothing.
 use Rattle.flags.specs.Flags.{summary_of}
-use borrow.Author.Rules.{rules}
 use Rattle.flags.proofs.summary.Goals as goal
 
 pub returns-then-all_true : goal.returns-then-all_true

@@ -5,7 +5,6 @@ use Rattle.groups.proofs.Same.{same_marked}
 use Rattle.lanes.proofs.Applied.{applied_unmarked}
 use Rattle.lanes.specs.declared.Op.TheVariants.{SplatImmediate}
 use Rattle.vector.specs.Copies.{copies}
-use borrow.Author.Rules.{rules}
 use Rattle.register_bits.proofs.immediate.Goals as goal
 
 pub returns : goal.returns

@@ -1,6 +1,5 @@
 -- `registers::copy` meets its contract.
 -- Assumes nothing.
-use borrow.Author.Rules.{rules}
 use Rattle.registers.proofs.copy.Goals as goal
 
 pub returns : goal.returns

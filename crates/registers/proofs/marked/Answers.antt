@@ -2,7 +2,6 @@
 -- Assumes nothing.
 use Rattle.lanes.specs.Operations.{applied}
 use Rattle.registers.proofs.Left.{left}
-use borrow.Author.Rules.{rules}
 use Rattle.registers.proofs.marked.Goals as goal
 
 pub returns : goal.returns

@@ -3,7 +3,6 @@
 use Rattle.lanes.proofs.Applied.{applied_unmarked}
 use Rattle.lanes.specs.Operations.{applied}
 use Rattle.registers.proofs.Left.{left_bare}
-use borrow.Author.Rules.{rules}
 use Rattle.registers.proofs.unmarked.Goals as goal
 
 pub returns : goal.returns

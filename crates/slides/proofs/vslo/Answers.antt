@@ -1,6 +1,5 @@
 -- `slides::vslo` meets its contract.
 -- Assumes nothing.
-use borrow.Author.Rules.{rules}
 use Rattle.slides.proofs.vslo.Goals as goal
 
 pub returns : goal.returns

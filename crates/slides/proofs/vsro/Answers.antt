@@ -1,6 +1,5 @@
 -- `slides::vsro` meets its contract.
 -- Assumes nothing.
-use borrow.Author.Rules.{rules}
 use Rattle.slides.proofs.vsro.Goals as goal
 
 pub returns : goal.returns

@@ -5,7 +5,6 @@ use Rattle.lines.specs.Lines.{part}
 use lib.Seq.{length-take-le}
 use lib.ListN.{take, drop, length-drop}
 use native.Mathlib.Omega.{arith}
-use borrow.Author.Rules.{rules}
 use Rattle.states.proofs.generals.Goals as goal
 
 pub returns : goal.returns

@@ -4,7 +4,6 @@ use Rattle.states.proofs.Whole.{put_all}
 use Rattle.texts.proofs.Joined.{then, words_long}
 use native.Mathlib.Omega.{arith}
 use mathlib.Core.Path.{◌∙◌}
-use borrow.Author.Rules.{rules}
 use Rattle.states.proofs.join.Goals as goal
 
 pub add-requires : goal.add-requires

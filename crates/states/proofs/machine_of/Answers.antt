@@ -2,7 +2,6 @@
 -- Assumes nothing.
 use Rattle.states.specs.States.{loaded_of}
 use borrow.Author.Tests.{eq-eqb, ne_eqb}
-use borrow.Author.Rules.{rules}
 use Rattle.states.proofs.machine_of.Goals as goal
 
 pub returns-then-bytes-eq660 : goal.returns-then-bytes-eq660

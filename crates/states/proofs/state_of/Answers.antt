@@ -1,7 +1,6 @@
 -- `states::state_of` meets its contract.
 -- Assumes nothing.
 use Rattle.states.specs.States.{state_of}
-use borrow.Author.Rules.{rules}
 use Rattle.states.proofs.state_of.Goals as goal
 
 pub returns : goal.returns

@@ -1,7 +1,6 @@
 -- `states::taken` meets its contract.
 -- Assumes nothing.
 use Rattle.states.specs.States.{from_state}
-use borrow.Author.Rules.{rules}
 use Rattle.states.proofs.taken.Goals as goal
 
 pub returns : goal.returns

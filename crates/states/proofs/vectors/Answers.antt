@@ -6,7 +6,6 @@ use lib.Seq.{length-take-le}
 use lib.ListN.{take, replicate}
 use native.Mathlib.Omega.{arith}
 use mathlib.Core.Path.{sym, ◌∙◌}
-use borrow.Author.Rules.{rules}
 use Rattle.states.proofs.vectors.Goals as goal
 
 pub slice_bounds-add-end-2 : goal.slice_bounds-add-end-2

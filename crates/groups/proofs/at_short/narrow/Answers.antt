@@ -4,7 +4,6 @@ use Rattle.lanes.proofs.Below.{below}
 use native.Mathlib.Omega.{arith}
 use native.Mathlib.Nat.{mod-eq_of_lt}
 use Prim.Native.Nat.{◌<◌}
-use borrow.Author.Rules.{rules}
 use Rattle.groups.proofs.at_short.narrow.Goals as goal
 
 pub returns : goal.returns

@@ -3,7 +3,6 @@
 use Rattle.groups.proofs.Beside.{four_below, bytes_of_bytes}
 use Rattle.groups.proofs.Places.{Fit, fit, in_bytes, there}
 use Rattle.lanes.specs.declared.Size.TheVariants.{Byte}
-use borrow.Author.Rules.{rules}
 use Rattle.groups.proofs.join.bytes.Goals as goal
 
 pub returns : goal.returns

@@ -3,7 +3,6 @@
 use Rattle.groups.proofs.Beside.{four_below, bytes_of_halves}
 use Rattle.groups.proofs.Places.{Fit, fit, in_halves, there}
 use Rattle.lanes.specs.declared.Size.TheVariants.{Half}
-use borrow.Author.Rules.{rules}
 use Rattle.groups.proofs.join.halves.Goals as goal
 
 pub returns : goal.returns

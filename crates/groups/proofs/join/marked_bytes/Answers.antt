@@ -5,7 +5,6 @@ use Rattle.groups.proofs.Same.{same_marked}
 use Rattle.lanes.specs.Words.{joined}
 use Rattle.groups.proofs.Places.{Fit, fit, in_bytes, there}
 use Rattle.lanes.specs.declared.Size.TheVariants.{Byte}
-use borrow.Author.Rules.{rules}
 use Rattle.groups.proofs.join.marked_bytes.Goals as goal
 
 pub returns : goal.returns

@@ -5,7 +5,6 @@ use Rattle.groups.proofs.Same.{same_marked}
 use Rattle.lanes.specs.Words.{joined}
 use Rattle.groups.proofs.Stored.{stored, four_of}
 use Rattle.groups.proofs.Places.{Fit, fit, in_halves}
-use borrow.Author.Rules.{rules}
 use Rattle.groups.proofs.join.marked_shorts.Goals as goal
 
 pub returns : goal.returns

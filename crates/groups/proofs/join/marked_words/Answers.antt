@@ -5,7 +5,6 @@ use Rattle.groups.proofs.Same.{same_marked}
 use Rattle.lanes.specs.Words.{joined}
 use Rattle.groups.proofs.Places.{Fit, fit, in_word, there}
 use Rattle.lanes.specs.declared.Size.TheVariants.{Word}
-use borrow.Author.Rules.{rules}
 use Rattle.groups.proofs.join.marked_words.Goals as goal
 
 pub returns : goal.returns

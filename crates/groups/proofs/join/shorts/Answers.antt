@@ -3,7 +3,6 @@
 use Rattle.groups.proofs.Beside.{bytes_of_halves}
 use Rattle.groups.proofs.Stored.{stored, four_of}
 use Rattle.groups.proofs.Places.{Fit, fit, in_halves}
-use borrow.Author.Rules.{rules}
 use Rattle.groups.proofs.join.shorts.Goals as goal
 
 pub returns : goal.returns

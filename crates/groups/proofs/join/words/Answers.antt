@@ -3,7 +3,6 @@
 use Rattle.groups.proofs.Beside.{four_below, bytes_of_words}
 use Rattle.groups.proofs.Places.{Fit, fit, in_word, there}
 use Rattle.lanes.specs.declared.Size.TheVariants.{Word}
-use borrow.Author.Rules.{rules}
 use Rattle.groups.proofs.join.words.Goals as goal
 
 pub returns : goal.returns

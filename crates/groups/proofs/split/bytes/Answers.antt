@@ -1,6 +1,5 @@
 -- `groups::split::bytes` meets its contract.
 -- Assumes nothing.
-use borrow.Author.Rules.{rules}
 use Rattle.groups.proofs.split.bytes.Goals as goal
 
 pub returns : goal.returns

@@ -1,7 +1,6 @@
 -- `groups::split::eight` meets its contract.
 -- Assumes nothing.
 use Rattle.lanes.specs.Numbers.{number_at}
-use borrow.Author.Rules.{rules}
 use Rattle.groups.proofs.split.eight.Goals as goal
 
 pub returns : goal.returns

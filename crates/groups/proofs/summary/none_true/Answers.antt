@@ -1,7 +1,6 @@
 -- `groups::summary::none_true` meets its contract.
 -- Assumes nothing.
 use Rattle.lanes.specs.Numbers.{number_at}
-use borrow.Author.Rules.{rules}
 use Rattle.groups.proofs.summary.none_true.Goals as goal
 
 pub returns : goal.returns

@@ -4,7 +4,6 @@ use Rattle.machine.specs.Runs.{run_of}
 use Rattle.control.specs.Answers.{number_of}
 use mathlib.Core.Path.{refl, ap, sym, ◌∙◌}
 use borrow.Author.Tests.{le-leb, lt-leb}
-use borrow.Author.Rules.{rules}
 use Rattle.machine.proofs.Machine.run.Goals as goal
 
 pub steps-r-requires : goal.steps-r-requires

@@ -1,5 +1,4 @@
 -- `Machine::step` meets its contract.
-use borrow.Author.Rules.{rules}
 use Rattle.machine.proofs.Machine.step.Goals as goal
 
 pub returns : goal.returns

@@ -1,7 +1,7 @@
 -- `machine::walk::steps` meets its contract.
 -- Assumes nothing.
 use Rattle.machine.proofs.Meaning.{state_of, stop_gives, refusal_gives, at_end, spent, refused, more}
-use Rattle.machine.specs.Runs.{starts, stops, machine_of, order_at, runs}
+use Rattle.machine.specs.Runs.{stops, order_at}
 use Rattle.control.proofs.Within.{reaches}
 use Rattle.control.proofs.Kept as kept
 use Rattle.control.proofs.Fields.{decoded}
@@ -9,11 +9,10 @@ use Rattle.control.specs.Orders.{order_of}
 use Rattle.control.specs.declared.answers.Answer.{Answer}
 use Rattle.control.specs.declared.answers.Answer.TheVariants.{Done, Spent}
 use Rattle.decode.specs.declared.Decoded.{Decoded}
-use borrow.Author.Rules.{rules}
 use native.Mathlib.Omega.{arith}
 use mathlib.Core.Path.{◌≡◌, refl, ap, sym, ◌∙◌}
 use lib.ListN.{length}
-use Prim.Native.Nat.{◌+◌, ◌≤◌, ◌<◌}
+use Prim.Native.Nat.{◌<◌}
 use Rattle.machine.proofs.walk.steps.Goals as goal
 
 pub loop-left-init : goal.loop-left-init

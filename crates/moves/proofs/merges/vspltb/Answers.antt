@@ -1,7 +1,6 @@
 -- `moves::merges::vspltb` meets its contract.
 -- Assumes nothing.
 use native.Mathlib.Nat.{add-zero, one-mul}
-use borrow.Author.Rules.{rules}
 use Rattle.moves.proofs.merges.vspltb.Goals as goal
 
 pub returns : goal.returns

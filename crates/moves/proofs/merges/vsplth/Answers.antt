@@ -1,7 +1,6 @@
 -- `moves::merges::vsplth` meets its contract.
 -- Assumes nothing.
 use native.Mathlib.Nat.{add-zero}
-use borrow.Author.Rules.{rules}
 use Rattle.moves.proofs.merges.vsplth.Goals as goal
 
 pub returns : goal.returns

@@ -1,7 +1,6 @@
 -- `moves::merges::vspltw` meets its contract.
 -- Assumes nothing.
 use native.Mathlib.Nat.{add-zero}
-use borrow.Author.Rules.{rules}
 use Rattle.moves.proofs.merges.vspltw.Goals as goal
 
 pub returns : goal.returns

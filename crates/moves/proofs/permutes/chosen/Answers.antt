@@ -2,7 +2,6 @@
 -- Assumes nothing.
 use mathlib.Core.Path.{refl}
 use Rattle.groups.proofs.Same.{◌&◌}
-use borrow.Author.Rules.{rules}
 use Rattle.moves.proofs.permutes.chosen.Goals as goal
 
 pub named-requires : goal.named-requires

@@ -1,7 +1,6 @@
 -- `moves::permutes::lvsl` meets its contract.
 -- Assumes nothing.
 use native.Mathlib.Nat.{add-zero}
-use borrow.Author.Rules.{rules}
 use Rattle.moves.proofs.permutes.lvsl.Goals as goal
 
 pub returns : goal.returns

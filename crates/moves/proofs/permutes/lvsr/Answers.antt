@@ -1,7 +1,6 @@
 -- `moves::permutes::lvsr` meets its contract.
 -- Assumes nothing.
 use native.Mathlib.Nat.{add-zero}
-use borrow.Author.Rules.{rules}
 use Rattle.moves.proofs.permutes.lvsr.Goals as goal
 
 pub returns : goal.returns

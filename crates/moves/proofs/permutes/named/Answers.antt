@@ -1,7 +1,6 @@
 -- `moves::permutes::named` meets its contract.
 -- Assumes nothing.
 use borrow.Author.Tests.{lt-ltb, le-ltb}
-use borrow.Author.Rules.{rules}
 use Rattle.moves.proofs.permutes.named.Goals as goal
 
 pub returns-then-i-lt16 : goal.returns-then-i-lt16

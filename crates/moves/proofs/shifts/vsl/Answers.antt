@@ -4,7 +4,6 @@ use native.Mathlib.Omega.{arith}
 use mathlib.Core.Path.{◌∙◌}
 use Rattle.moves.proofs.Shifted.{left}
 use Rattle.groups.proofs.Places.{fit}
-use borrow.Author.Rules.{rules}
 use Rattle.moves.proofs.shifts.vsl.Goals as goal
 
 pub returns : goal.returns

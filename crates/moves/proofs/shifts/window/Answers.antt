@@ -2,7 +2,6 @@
 -- Assumes nothing.
 use mathlib.Core.Path.{refl}
 use Rattle.groups.proofs.Same.{◌&◌}
-use borrow.Author.Rules.{rules}
 use Rattle.moves.proofs.shifts.window.Goals as goal
 
 pub between-requires : goal.between-requires

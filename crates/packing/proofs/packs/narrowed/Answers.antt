@@ -1,7 +1,6 @@
 -- `packing::packs::narrowed` meets its contract.
 -- Assumes nothing.
 use Rattle.packing.specs.Resized.{within}
-use borrow.Author.Rules.{rules}
 use Rattle.packing.proofs.packs.narrowed.Goals as goal
 
 pub nearer-near-requires : goal.nearer-near-requires

@@ -6,7 +6,7 @@ use Rattle.lanes.specs.Numbers.{number_at}
 use Rattle.lanes.specs.declared.Size.TheVariants.{Half}
 use Rattle.packing.specs.Resized.{within, lane_of_both}
 use Rattle.packing.proofs.Resized.{of_bytes}
-use borrow.Author.Rules.{rules, Fits-under}
+use borrow.Author.Rules.{Fits-under}
 use Rattle.packing.proofs.packs.to_bytes.Goals as goal
 
 pub half-requires : goal.half-requires

@@ -6,7 +6,6 @@ use Rattle.lanes.specs.Numbers.{number_at}
 use Rattle.lanes.specs.declared.Size.TheVariants.{Word}
 use Rattle.packing.specs.Resized.{within, lane_of_both}
 use Rattle.packing.proofs.Resized.{of_halves, left_fits, right_fits}
-use borrow.Author.Rules.{rules}
 use Rattle.packing.proofs.packs.to_halves.Goals as goal
 
 pub word-requires : goal.word-requires

@@ -4,7 +4,6 @@ use mathlib.Core.Path.{refl, ◌∙◌}
 use Rattle.lanes.specs.declared.Size.TheVariants.{Half, Word}
 use Rattle.groups.proofs.Places.{fit}
 use Rattle.packing.proofs.Resized.{signed_pack}
-use borrow.Author.Rules.{rules}
 use Rattle.packing.proofs.packs.vpkswus.Goals as goal
 
 pub returns : goal.returns

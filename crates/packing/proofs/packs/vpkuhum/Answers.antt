@@ -10,7 +10,6 @@ use Rattle.groups.proofs.Same.{◌&◌}
 use Rattle.packing.proofs.Resized.{low_byte}
 use mathlib.Core.Path.{refl}
 use Rattle.groups.proofs.Places.{Fit, fit}
-use borrow.Author.Rules.{rules}
 use Rattle.packing.proofs.packs.vpkuhum.Goals as goal
 
 pub returns : goal.returns

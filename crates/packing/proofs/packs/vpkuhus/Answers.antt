@@ -4,7 +4,6 @@ use mathlib.Core.Path.{◌∙◌}
 use Rattle.lanes.specs.declared.Size.TheVariants.{Byte, Half}
 use Rattle.groups.proofs.Places.{fit}
 use Rattle.packing.proofs.Resized.{unsigned_pack}
-use borrow.Author.Rules.{rules}
 use Rattle.packing.proofs.packs.vpkuhus.Goals as goal
 
 pub returns : goal.returns

@@ -10,7 +10,6 @@ use Rattle.packing.specs.Resized.{vector_of}
 use Rattle.packing.proofs.Resized.{low_half}
 use mathlib.Core.Path.{refl}
 use Rattle.groups.proofs.Places.{Fit, fit}
-use borrow.Author.Rules.{rules}
 use Rattle.packing.proofs.packs.vpkuwum.Goals as goal
 
 pub returns : goal.returns

@@ -4,7 +4,6 @@ use native.Mathlib.Omega.{arith}
 use mathlib.Core.Path.{refl}
 use Rattle.packing.specs.Resized.{vector_of}
 use Rattle.groups.proofs.Same.{same_marked}
-use borrow.Author.Rules.{rules}
 use Rattle.packing.proofs.sums.odd_words.Goals as goal
 
 pub mark-requires : goal.mark-requires

@@ -5,7 +5,6 @@ use mir.Syntax.{w64}
 use Prim.Native.Nat.{◌^◌}
 use Rattle.packing.proofs.Summed.{sat-lt}
 use Rattle.lanes.proofs.Known.{lane, plus, fits, kept}
-use borrow.Author.Rules.{rules}
 use Rattle.packing.proofs.sums.sum_of_three.Goals as goal
 
 pub overflow_add-p : goal.overflow_add-p

@@ -1,6 +1,5 @@
 -- `packing::sums::vsum2sws` meets its contract.
 -- Assumes nothing.
-use borrow.Author.Rules.{rules}
 use Rattle.packing.proofs.sums.vsum2sws.Goals as goal
 
 pub words_of-x-requires : goal.words_of-x-requires

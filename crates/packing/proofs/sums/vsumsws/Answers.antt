@@ -1,7 +1,6 @@
 -- `packing::sums::vsumsws` meets its contract.
 -- Assumes nothing.
 use native.Mathlib.Omega.{arith}
-use borrow.Author.Rules.{rules}
 use Rattle.packing.proofs.sums.vsumsws.Goals as goal
 
 pub words_of-x-requires : goal.words_of-x-requires

@@ -8,7 +8,6 @@ use Prim.Native.Nat.{ℕ}
 use mathlib.Core.List.{List}
 use mathlib.Core.Path.{refl}
 use Rattle.groups.proofs.Places.{Fit, fit}
-use borrow.Author.Rules.{rules}
 use Rattle.packing.proofs.unpacks.bytes.Goals as goal
 
 pub sign-requires : goal.sign-requires

@@ -2,7 +2,6 @@
 -- Assumes nothing.
 use Rattle.lanes.specs.Numbers.{number_at}
 use Rattle.packing.specs.Resized.{vector_of}
-use borrow.Author.Rules.{rules}
 use Rattle.packing.proofs.unpacks.vupkhsb.Goals as goal
 
 pub bytes-requires : goal.bytes-requires

@@ -4,7 +4,6 @@ use Prim.Native.Nat.{ℕ}
 use mathlib.Core.List.{List}
 use Rattle.registers.proofs.Left.{left_bare}
 use Rattle.register_moves.specs.Made.{made}
-use borrow.Author.Rules.{rules}
 use Rattle.register_moves.proofs.making.made.Goals as goal
 
 pub returns : goal.returns
