@@ -1,4 +1,4 @@
--- What is put over the whole of a list is all that is left; so it is with the words of thirty_two general registers.
+-- What is put over the whole of a list is all that is left; so it is with the words of thirty-two general registers.
 -- Assumes nothing.
 use Prim.Native.Nat.{ℕ}
 use mathlib.Core.Path.{◌≡◌, refl, ap, ◌∙◌}
