@@ -6,11 +6,8 @@
 ghost use Rattle.std.specs.Prelude.{◌<◌};
 
 use encodings::ops::{Op, Sign, Width};
-use libc::{STDIN_FILENO, STDOUT_FILENO};
-
-fn put(text: &[u8]) {
-    io::write_all(STDOUT_FILENO, text);
-}
+use files::say;
+use std::io::Read;
 
 // The place of the operation in the list of `mnemonic`.
 fn family(op: Op) -> usize {
@@ -133,83 +130,90 @@ fn result_sign(op: Op) -> Sign {
     }
 }
 
-fn put_width(w: Width) {
+fn put_width(rt: &impl Print, w: Width) {
     match w {
-        Width::Byte => put(b"b"),
-        Width::Half => put(b"h"),
-        Width::Word => put(b"w"),
+        Width::Byte => say(rt, b"b"),
+        Width::Half => say(rt, b"h"),
+        Width::Word => say(rt, b"w"),
     }
 }
 
-fn put_sign(s: Sign) {
+fn put_sign(rt: &impl Print, s: Sign) {
     match s {
-        Sign::Unsigned => put(b"u"),
-        Sign::Signed => put(b"s"),
+        Sign::Unsigned => say(rt, b"u"),
+        Sign::Signed => say(rt, b"s"),
     }
 }
 
 // A letter of a name: ? stands for the sign, * for the width, ! for the sign of a pack's result.
-fn letter(c: u8, op: Op) {
+fn letter(rt: &impl Print, c: u8, op: Op) {
     if c == b'?' {
-        put_sign(sign(op));
+        put_sign(rt, sign(op));
     } else if c == b'*' {
-        put_width(width(op));
+        put_width(rt, width(op));
     } else if c == b'!' {
-        put_sign(result_sign(op));
+        put_sign(rt, result_sign(op));
     } else if c != b' ' {
-        put(&[c]);
+        say(rt, &[c]);
     }
 }
 
 // The name in a cell of ten letters.
-fn spell(cells: &[u8], cell: usize, op: Op) {
+fn spell(rt: &impl Print, cells: &[u8], cell: usize, op: Op) {
     if cell < 8 {
         for i in 0..10 {
             let at = cell * 10 + i;
             if at < cells.len() {
-                letter(cells[at], op);
+                letter(rt, cells[at], op);
             }
         }
     }
 }
 
 // The mnemonic; lvxl and stvxl have the operation and the name of lvx and stvx.
-fn mnemonic(op: Op) {
+fn mnemonic(rt: &impl Print, op: Op) {
     let f = family(op);
     let row = f / 8;
     let cell = f % 8;
     match row {
         0 => spell(
+            rt,
             b"-         vaddu*m   vaddcuw   vadd?*s   vsubu*m   vsubcuw   vsub?*s   vmax?*    ",
             cell,
             op,
         ),
         1 => spell(
+            rt,
             b"vmin?*    vavg?*    vrl*      vsl*      vsr*      vsra*     vsl       vsr       ",
             cell,
             op,
         ),
         2 => spell(
+            rt,
             b"vslo      vsro      vand      vandc     vor       vxor      vnor      mfvscr    ",
             cell,
             op,
         ),
         3 => spell(
+            rt,
             b"mtvscr    vmulo?*   vmule?*   vsum4?*s  vsum2sws  vsumsws   vmrgh*    vmrgl*    ",
             cell,
             op,
         ),
         4 => spell(
+            rt,
             b"vsplt*    vspltis*  vpku*um   vpk?*!s   vupkhs*   vupkls*   vcmpequ*  vcmpgt?*  ",
             cell,
             op,
         ),
         5 => spell(
+            rt,
             b"vmhaddshs vmhraddshsvmladduhm vmsum?*m  vmsummbm  vmsum?hs  vsel      vperm     ",
             cell,
             op,
         ),
         _ => spell(
+            rt,
             b"vsldoi    lvsl      lvsr      lve*x     lvx       stve*x    stvx      addi      ",
             cell,
             op,
@@ -217,45 +221,43 @@ fn mnemonic(op: Op) {
     }
 }
 
-fn number(name: &[u8], n: u64) {
-    put(name);
-    io::print_decimal(STDOUT_FILENO, n);
+fn number(rt: &impl Print, name: &[u8], n: u64) {
+    say(rt, name);
+    let _ = rt.print(n);
 }
 
-fn flag(name: &[u8], on: bool) {
+fn flag(rt: &impl Print, name: &[u8], on: bool) {
     if on {
-        put(name);
+        say(rt, name);
     }
 }
 
-fn traits(op: Op) {
-    flag(b" reads a", decode::traits::reads_a(op));
-    flag(b" reads b", decode::traits::reads_b(op));
-    flag(b" reads c", decode::traits::reads_c(op));
-    flag(b" reads d", decode::traits::reads_d(op));
-    flag(b" writes d", decode::traits::writes_d(op));
-    flag(b" clips", decode::traits::can_clip(op));
-    flag(b" bound", decode::traits::position_bound(op));
+fn traits(rt: &impl Print, op: Op) {
+    flag(rt, b" reads a", decode::traits::reads_a(op));
+    flag(rt, b" reads b", decode::traits::reads_b(op));
+    flag(rt, b" reads c", decode::traits::reads_c(op));
+    flag(rt, b" reads d", decode::traits::reads_d(op));
+    flag(rt, b" writes d", decode::traits::writes_d(op));
+    flag(rt, b" clips", decode::traits::can_clip(op));
+    flag(rt, b" bound", decode::traits::position_bound(op));
 }
 
-fn line(word: u32) {
+fn line(rt: &impl Print, word: u32) {
     let got = decode::decode(word);
     let op = got.op;
-    io::print_hex(STDOUT_FILENO, word as u64, 8);
-    put(b" ");
-    mnemonic(op);
-    number(b" d", got.d as u64);
-    number(b" a", got.a as u64);
-    number(b" b", got.b as u64);
-    number(b" c", got.c as u64);
-    number(b" count", got.count as u64);
-    number(b" imm", got.imm as u64);
-    flag(b" rc", got.rc);
-    flag(b" stray", got.stray);
-    traits(op);
-    put(b" cleared ");
-    io::print_hex(STDOUT_FILENO, decode::cleared(word) as u64, 8);
-    put(b"\n");
+    let _ = print!(rt; "{word:08x}");
+    say(rt, b" ");
+    mnemonic(rt, op);
+    number(rt, b" d", got.d as u64);
+    number(rt, b" a", got.a as u64);
+    number(rt, b" b", got.b as u64);
+    number(rt, b" c", got.c as u64);
+    number(rt, b" count", got.count as u64);
+    number(rt, b" imm", got.imm as u64);
+    flag(rt, b" rc", got.rc);
+    flag(rt, b" stray", got.stray);
+    traits(rt, op);
+    let _ = println!(rt; " cleared {:08x}", decode::cleared(word));
 }
 
 fn wide(b: u8) -> u32
@@ -269,13 +271,13 @@ fn joined(b: &[u8; 4]) -> u32 {
     ((wide(b[0]) * 256 + wide(b[1])) * 256 + wide(b[2])) * 256 + wide(b[3])
 }
 
-fn main() {
+fn main(rt: HostRuntime) {
+    let mut input = rt.stdin();
     for _ in 0..1024usize {
         let mut bytes = [0u8; 4];
-        let n = io::read_full(STDIN_FILENO, &mut bytes);
-        if n < 4 {
+        if input.read_exact(&mut bytes).is_err() {
             return;
         }
-        line(joined(&bytes));
+        line(&rt, joined(&bytes));
     }
 }

@@ -1,10 +1,10 @@
 // Document 01's printing program: code from standard input, a run from a machine of zeros with no memory, and the lines that it leaves.
 #![tactic(auto)]
 
-use libc::{STDIN_FILENO, STDOUT_FILENO};
+use files::{fail, say};
 use machine::Machine;
 
-fn run(code: &[u32]) {
+fn run(rt: &impl Print, err: &impl Print, code: &[u32]) {
     let m = Machine {
         v: [0; 512],
         g: [0; 32],
@@ -16,26 +16,28 @@ fn run(code: &[u32]) {
     let r = m.run(code, &mut memory, 0, 0, 65536);
     let how = r.report;
     let after = r.m;
-    printing::report(how, after);
+    printing::report(rt, err, how, after);
     let v = after.v;
-    printing::vectors(v);
+    printing::vectors(rt, err, v);
 }
 
 // One byte more than the most that is taken, so that a longer input shows.
-fn main() {
+fn main(rt: HostRuntime) {
+    let err = rt.stderr();
     let mut input = [0u8; 65537];
-    let got = files::read_all(STDIN_FILENO, &mut input);
-    if !got.good {
-        os::fail(b"standard input");
-        return;
-    }
-    let n = got.count;
+    let n = match files::read_all(&mut rt.stdin(), &mut input) {
+        Ok(n) => n,
+        Err(error) => {
+            fail(&err, b"standard input", &error);
+            return;
+        }
+    };
     let mut code = [0u32; 16384];
     let w = reading::words(&input[..n], &mut code);
     if !w.good {
-        io::write_all(STDOUT_FILENO, b"bad input\n");
+        say(&rt, b"bad input\n");
         return;
     }
     let count = w.count;
-    run(&code[..count]);
+    run(&rt, &err, &code[..count]);
 }

@@ -1,7 +1,7 @@
 // Small kernels over memory.
 use crate::show::{line, ramp, tell};
 
-fn elements_read() {
+fn elements_read(rt: &impl Print, err: &impl Print) {
     let code = [
         // addi r1, r0, 0x1015
         0x38201015,
@@ -14,6 +14,8 @@ fn elements_read() {
     ];
     let mut mem = ramp();
     tell(
+        rt,
+        err,
         b"element loads at 0x1015: each in its place, the other bytes zero\n",
         &code,
         &mut mem,
@@ -23,7 +25,7 @@ fn elements_read() {
     );
 }
 
-fn elements_written() {
+fn elements_written(rt: &impl Print, err: &impl Print) {
     let code = [
         // addi r1, r0, 0x1016
         0x38201016,
@@ -42,6 +44,8 @@ fn elements_written() {
     ];
     let mut mem = ramp();
     tell(
+        rt,
+        err,
         b"element stores of ones at 0x1016: no other byte changes\n",
         &code,
         &mut mem,
@@ -51,7 +55,7 @@ fn elements_written() {
     );
 }
 
-fn line_copied() {
+fn line_copied(rt: &impl Print, err: &impl Print) {
     let code = [
         // addi r1, r0, 0x1000
         0x38201000,
@@ -64,6 +68,8 @@ fn line_copied() {
     ];
     let mut mem = ramp();
     tell(
+        rt,
+        err,
         b"a line through a register\n",
         &code,
         &mut mem,
@@ -73,7 +79,7 @@ fn line_copied() {
     );
 }
 
-fn unaligned_read() {
+fn unaligned_read(rt: &impl Print, err: &impl Print) {
     let code = [
         // addi r1, r0, 0x1005
         0x38201005,
@@ -90,6 +96,8 @@ fn unaligned_read() {
     ];
     let mut mem = ramp();
     tell(
+        rt,
+        err,
         b"sixteen bytes from 0x1005 on\n",
         &code,
         &mut mem,
@@ -99,7 +107,7 @@ fn unaligned_read() {
     );
 }
 
-fn unaligned_write() {
+fn unaligned_write(rt: &impl Print, err: &impl Print) {
     let code = [
         // addi r1, r0, 0x1005
         0x38201005,
@@ -132,6 +140,8 @@ fn unaligned_write() {
     ];
     let mut mem = ramp();
     tell(
+        rt,
+        err,
         b"sixteen bytes of 2 from 0x1005 on: the bytes around them stay\n",
         &code,
         &mut mem,
@@ -141,7 +151,7 @@ fn unaligned_write() {
     );
 }
 
-fn sat_stays() {
+fn sat_stays(rt: &impl Print, err: &impl Print) {
     let code = [
         // vspltisb v1, -1
         0x103f030c,
@@ -160,6 +170,8 @@ fn sat_stays() {
     ];
     let mut mem = line();
     tell(
+        rt,
+        err,
         b"SAT stays on through an instruction that does not clip, and mtvscr turns it off\n",
         &code,
         &mut mem,
@@ -169,7 +181,7 @@ fn sat_stays() {
     );
 }
 
-fn status_both() {
+fn status_both(rt: &impl Print, err: &impl Print) {
     let code = [
         // vspltisb v1, -1
         0x103f030c,
@@ -180,6 +192,8 @@ fn status_both() {
     ];
     let mut mem = line();
     tell(
+        rt,
+        err,
         b"mtvscr sets NJ and SAT from bits 111 and 127, and ignores the rest\n",
         &code,
         &mut mem,
@@ -189,7 +203,7 @@ fn status_both() {
     );
 }
 
-fn target_is_source() {
+fn target_is_source(rt: &impl Print, err: &impl Print) {
     let code = [
         // addi r1, r0, 0x1000
         0x38201000,
@@ -203,10 +217,19 @@ fn target_is_source() {
         0x102108ec,
     ];
     let mut mem = ramp();
-    tell(b"D is a source too\n", &code, &mut mem, 0x1000, 0, 100);
+    tell(
+        rt,
+        err,
+        b"D is a source too\n",
+        &code,
+        &mut mem,
+        0x1000,
+        0,
+        100,
+    );
 }
 
-fn summaries() {
+fn summaries(rt: &impl Print, err: &impl Print) {
     let code = [
         // vspltisb v1, 1
         0x1021030c,
@@ -217,6 +240,8 @@ fn summaries() {
     ];
     let mut mem = line();
     tell(
+        rt,
+        err,
         b"CR6 of a compare with Rc, and none of one without\n",
         &code,
         &mut mem,
@@ -226,7 +251,7 @@ fn summaries() {
     );
 }
 
-fn none_true() {
+fn none_true(rt: &impl Print, err: &impl Print) {
     let code = [
         // vspltisb v1, 1
         0x1021030c,
@@ -235,6 +260,8 @@ fn none_true() {
     ];
     let mut mem = line();
     tell(
+        rt,
+        err,
         b"CR6 where no lane is true\n",
         &code,
         &mut mem,
@@ -244,7 +271,7 @@ fn none_true() {
     );
 }
 
-fn correction() {
+fn correction(rt: &impl Print, err: &impl Print) {
     let code = [
         // addi r1, r0, 0x1000
         0x38201000,
@@ -277,6 +304,8 @@ fn correction() {
         0x10, 0x00, 0x10, 0x00,
     ];
     tell(
+        rt,
+        err,
         b"a polynomial of degree 2 over a line: (0x1000 x + 0x2000) x + 0x4000, in 16-bit fixed point\n",
         &code,
         &mut mem,
@@ -286,7 +315,7 @@ fn correction() {
     );
 }
 
-fn correction_clipped() {
+fn correction_clipped(rt: &impl Print, err: &impl Print) {
     let code = [
         // addi r1, r0, 0x1000
         0x38201000,
@@ -307,6 +336,8 @@ fn correction_clipped() {
         0x00, 0x00,
     ];
     tell(
+        rt,
+        err,
         b"the same with a constant that clips: SAT says so\n",
         &code,
         &mut mem,
@@ -316,7 +347,7 @@ fn correction_clipped() {
     );
 }
 
-fn widened_sum() {
+fn widened_sum(rt: &impl Print, err: &impl Print) {
     let code = [
         // addi r1, r0, 0x1000
         0x38201000,
@@ -335,6 +366,8 @@ fn widened_sum() {
     ];
     let mut mem = ramp();
     tell(
+        rt,
+        err,
         b"the sum of sixteen bytes\n",
         &code,
         &mut mem,
@@ -344,18 +377,18 @@ fn widened_sum() {
     );
 }
 
-pub fn all() {
-    elements_read();
-    elements_written();
-    line_copied();
-    unaligned_read();
-    unaligned_write();
-    sat_stays();
-    status_both();
-    target_is_source();
-    summaries();
-    none_true();
-    correction();
-    correction_clipped();
-    widened_sum();
+pub fn all(rt: &impl Print, err: &impl Print) {
+    elements_read(rt, err);
+    elements_written(rt, err);
+    line_copied(rt, err);
+    unaligned_read(rt, err);
+    unaligned_write(rt, err);
+    sat_stays(rt, err);
+    status_both(rt, err);
+    target_is_source(rt, err);
+    summaries(rt, err);
+    none_true(rt, err);
+    correction(rt, err);
+    correction_clipped(rt, err);
+    widened_sum(rt, err);
 }

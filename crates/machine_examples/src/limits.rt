@@ -1,7 +1,7 @@
 // Document 01's address examples, and where a run stops.
 use crate::show::{line, tell};
 
-fn last_byte_of_the_line() {
+fn last_byte_of_the_line(rt: &impl Print, err: &impl Print) {
     let code = [
         // addi r1, r0, 0x100f
         0x3820100f,
@@ -10,6 +10,8 @@ fn last_byte_of_the_line() {
     ];
     let mut mem = line();
     tell(
+        rt,
+        err,
         b"lvx at 0x100F, in a memory of 16 bytes at 0x1000\n",
         &code,
         &mut mem,
@@ -19,7 +21,7 @@ fn last_byte_of_the_line() {
     );
 }
 
-fn one_past_the_end() {
+fn one_past_the_end(rt: &impl Print, err: &impl Print) {
     let code = [
         // addi r1, r0, 0x1010
         0x38201010,
@@ -28,6 +30,8 @@ fn one_past_the_end() {
     ];
     let mut mem = line();
     tell(
+        rt,
+        err,
         b"lvx at 0x1010, in the same memory\n",
         &code,
         &mut mem,
@@ -37,7 +41,7 @@ fn one_past_the_end() {
     );
 }
 
-fn wrapped_sum() {
+fn wrapped_sum(rt: &impl Print, err: &impl Print) {
     let code = [
         // addi r1, r0, 0x1002
         0x38201002,
@@ -48,6 +52,8 @@ fn wrapped_sum() {
     ];
     let mut mem = line();
     tell(
+        rt,
+        err,
         b"rA 0x1002 plus rB 0xFFFFFFFF is 0x1001\n",
         &code,
         &mut mem,
@@ -57,7 +63,7 @@ fn wrapped_sum() {
     );
 }
 
-fn end_of_the_addresses() {
+fn end_of_the_addresses(rt: &impl Print, err: &impl Print) {
     let code = [
         // addi r1, r0, -1
         0x3820ffff,
@@ -66,6 +72,8 @@ fn end_of_the_addresses() {
     ];
     let mut mem = line();
     tell(
+        rt,
+        err,
         b"a memory that ends at 2^32\n",
         &code,
         &mut mem,
@@ -75,7 +83,7 @@ fn end_of_the_addresses() {
     );
 }
 
-fn beyond_the_addresses() {
+fn beyond_the_addresses(rt: &impl Print, err: &impl Print) {
     let code = [
         // addi r1, r0, -1
         0x3820ffff,
@@ -86,6 +94,8 @@ fn beyond_the_addresses() {
         0x1e, 0x1f,
     ];
     tell(
+        rt,
+        err,
         b"a memory that would end beyond 2^32\n",
         &code,
         &mut mem,
@@ -95,7 +105,7 @@ fn beyond_the_addresses() {
     );
 }
 
-fn uneven_length() {
+fn uneven_length(rt: &impl Print, err: &impl Print) {
     let code = [
         // addi r1, r0, 1
         0x38200001,
@@ -104,10 +114,19 @@ fn uneven_length() {
         0x00, 0x01, 0x02, 0x03, 0x04, 0x05, 0x06, 0x07, 0x08, 0x09, 0x0a, 0x0b, 0x0c, 0x0d, 0x0e,
         0x0f, 0x10, 0x11, 0x12, 0x13, 0x14, 0x15, 0x16, 0x17,
     ];
-    tell(b"a memory of 24 bytes\n", &code, &mut mem, 0x1000, 0, 100);
+    tell(
+        rt,
+        err,
+        b"a memory of 24 bytes\n",
+        &code,
+        &mut mem,
+        0x1000,
+        0,
+        100,
+    );
 }
 
-fn number_zero() {
+fn number_zero(rt: &impl Print, err: &impl Print) {
     let code = [
         // addi r0, r0, 0x1000
         0x38001000,
@@ -120,6 +139,8 @@ fn number_zero() {
     ];
     let mut mem = line();
     tell(
+        rt,
+        err,
         b"field 0 means the number 0, and not general register 0\n",
         &code,
         &mut mem,
@@ -129,13 +150,15 @@ fn number_zero() {
     );
 }
 
-fn start_beyond() {
+fn start_beyond(rt: &impl Print, err: &impl Print) {
     let code = [
         // addi r1, r0, 1
         0x38200001,
     ];
     let mut mem = line();
     tell(
+        rt,
+        err,
         b"a start beyond the code\n",
         &code,
         &mut mem,
@@ -145,13 +168,15 @@ fn start_beyond() {
     );
 }
 
-fn allowance_at_the_end() {
+fn allowance_at_the_end(rt: &impl Print, err: &impl Print) {
     let code = [
         // addi r1, r0, 1
         0x38200001,
     ];
     let mut mem = line();
     tell(
+        rt,
+        err,
         b"allowance 0 at the end of the code\n",
         &code,
         &mut mem,
@@ -161,13 +186,15 @@ fn allowance_at_the_end() {
     );
 }
 
-fn allowance_before_the_end() {
+fn allowance_before_the_end(rt: &impl Print, err: &impl Print) {
     let code = [
         // addi r1, r0, 1
         0x38200001,
     ];
     let mut mem = line();
     tell(
+        rt,
+        err,
         b"allowance 0 before the end of the code\n",
         &code,
         &mut mem,
@@ -177,7 +204,7 @@ fn allowance_before_the_end() {
     );
 }
 
-fn allowance_used_up() {
+fn allowance_used_up(rt: &impl Print, err: &impl Print) {
     let code = [
         // addi r1, r0, 1
         0x38200001,
@@ -188,6 +215,8 @@ fn allowance_used_up() {
     ];
     let mut mem = line();
     tell(
+        rt,
+        err,
         b"allowance 2 for three words\n",
         &code,
         &mut mem,
@@ -197,7 +226,7 @@ fn allowance_used_up() {
     );
 }
 
-fn unknown_word() {
+fn unknown_word(rt: &impl Print, err: &impl Print) {
     let code = [
         // addi r1, r0, 1
         0x38200001,
@@ -208,6 +237,8 @@ fn unknown_word() {
     ];
     let mut mem = line();
     tell(
+        rt,
+        err,
         b"a word that is no instruction, after one that is\n",
         &code,
         &mut mem,
@@ -217,7 +248,7 @@ fn unknown_word() {
     );
 }
 
-fn reserved_bit() {
+fn reserved_bit(rt: &impl Print, err: &impl Print) {
     let code = [
         // addi r1, r0, 0x2000
         0x38202000,
@@ -226,6 +257,8 @@ fn reserved_bit() {
     ];
     let mut mem = line();
     tell(
+        rt,
+        err,
         b"stvx with its last bit set, and an address outside: 6 comes before 7\n",
         &code,
         &mut mem,
@@ -235,18 +268,18 @@ fn reserved_bit() {
     );
 }
 
-pub fn all() {
-    last_byte_of_the_line();
-    one_past_the_end();
-    wrapped_sum();
-    end_of_the_addresses();
-    beyond_the_addresses();
-    uneven_length();
-    number_zero();
-    start_beyond();
-    allowance_at_the_end();
-    allowance_before_the_end();
-    allowance_used_up();
-    unknown_word();
-    reserved_bit();
+pub fn all(rt: &impl Print, err: &impl Print) {
+    last_byte_of_the_line(rt, err);
+    one_past_the_end(rt, err);
+    wrapped_sum(rt, err);
+    end_of_the_addresses(rt, err);
+    beyond_the_addresses(rt, err);
+    uneven_length(rt, err);
+    number_zero(rt, err);
+    start_beyond(rt, err);
+    allowance_at_the_end(rt, err);
+    allowance_before_the_end(rt, err);
+    allowance_used_up(rt, err);
+    unknown_word(rt, err);
+    reserved_bit(rt, err);
 }

@@ -5,7 +5,8 @@ mod kernels;
 mod limits;
 mod show;
 
-fn main() {
-    limits::all();
-    kernels::all();
+fn main(rt: HostRuntime) {
+    let err = rt.stderr();
+    limits::all(&rt, &err);
+    kernels::all(&rt, &err);
 }

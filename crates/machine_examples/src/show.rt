@@ -1,4 +1,5 @@
 // A run from a machine of zeros, and what it leaves.
+use files::say;
 use machine::Machine;
 
 // The bytes 0 to 15.
@@ -15,27 +16,29 @@ pub fn ramp() -> [u8; 64] {
     ]
 }
 
-fn text(s: &[u8]) {
-    io::write_all(1, s);
+fn sixteen(rt: &impl Print, label: &[u8], n: usize, x: [u8; 16]) {
+    say(rt, label);
+    let _ = rt.print(n);
+    hexlines::show(rt, b"", x);
 }
 
-fn sixteen(label: &[u8], n: usize, x: [u8; 16]) {
-    text(label);
-    io::print_decimal(1, n as u64);
-    hexlines::show(b"", x);
-}
-
-fn memory(mem: &[u8]) {
-    let mut n = 0;
-    let end = mem.len() / 16;
-    while n < end {
+fn memory(rt: &impl Print, mem: &[u8]) {
+    for n in 0..mem.len() / 16 {
         let at = 16 * n;
-        sixteen(b"m", at, lines::load(mem, at));
-        n += 1;
+        sixteen(rt, b"m", at, lines::load(mem, at));
     }
 }
 
-pub fn tell(title: &[u8], code: &[u32], mem: &mut [u8], base: u32, place: u32, allowance: u32) {
+pub fn tell(
+    rt: &impl Print,
+    err: &impl Print,
+    title: &[u8],
+    code: &[u32],
+    mem: &mut [u8],
+    base: u32,
+    place: u32,
+    allowance: u32,
+) {
     let m = Machine {
         v: [0; 512],
         g: [0; 32],
@@ -44,14 +47,14 @@ pub fn tell(title: &[u8], code: &[u32], mem: &mut [u8], base: u32, place: u32, a
         cr6: 0,
     };
     let r = m.run(code, mem, base, place, allowance);
-    text(title);
+    say(rt, title);
     let how = r.report;
     let after = r.m;
-    printing::report(how, after);
+    printing::report(rt, err, how, after);
     let v = after.v;
-    printing::vectors(v);
+    printing::vectors(rt, err, v);
     let g = after.g;
-    printing::generals(g);
-    memory(mem);
-    text(b"\n");
+    printing::generals(rt, err, g);
+    memory(rt, mem);
+    say(rt, b"\n");
 }

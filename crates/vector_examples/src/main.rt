@@ -3,154 +3,156 @@
 
 use hexlines::{marked, show};
 
-fn group_0(a: [u8; 16], b: [u8; 16], c: [u8; 16], i: u8) {
-    show(b"vaddubm", vector::vaddubm(a, b));
-    show(b"vadduhm", vector::vadduhm(a, b));
-    show(b"vadduwm", vector::vadduwm(a, b));
-    show(b"vaddcuw", vector::vaddcuw(a, b));
-    marked(b"vaddubs", vector::vaddubs(a, b));
-    marked(b"vadduhs", vector::vadduhs(a, b));
-    marked(b"vadduws", vector::vadduws(a, b));
-    marked(b"vaddsbs", vector::vaddsbs(a, b));
+fn group_0(rt: &impl Print, a: [u8; 16], b: [u8; 16], c: [u8; 16], i: u8) {
+    show(rt, b"vaddubm", vector::vaddubm(a, b));
+    show(rt, b"vadduhm", vector::vadduhm(a, b));
+    show(rt, b"vadduwm", vector::vadduwm(a, b));
+    show(rt, b"vaddcuw", vector::vaddcuw(a, b));
+    marked(rt, b"vaddubs", vector::vaddubs(a, b));
+    marked(rt, b"vadduhs", vector::vadduhs(a, b));
+    marked(rt, b"vadduws", vector::vadduws(a, b));
+    marked(rt, b"vaddsbs", vector::vaddsbs(a, b));
 }
 
-fn group_1(a: [u8; 16], b: [u8; 16], c: [u8; 16], i: u8) {
-    marked(b"vaddshs", vector::vaddshs(a, b));
-    marked(b"vaddsws", vector::vaddsws(a, b));
-    show(b"vsububm", vector::vsububm(a, b));
-    show(b"vsubuhm", vector::vsubuhm(a, b));
-    show(b"vsubuwm", vector::vsubuwm(a, b));
-    show(b"vsubcuw", vector::vsubcuw(a, b));
-    marked(b"vsububs", vector::vsububs(a, b));
-    marked(b"vsubuhs", vector::vsubuhs(a, b));
+fn group_1(rt: &impl Print, a: [u8; 16], b: [u8; 16], c: [u8; 16], i: u8) {
+    marked(rt, b"vaddshs", vector::vaddshs(a, b));
+    marked(rt, b"vaddsws", vector::vaddsws(a, b));
+    show(rt, b"vsububm", vector::vsububm(a, b));
+    show(rt, b"vsubuhm", vector::vsubuhm(a, b));
+    show(rt, b"vsubuwm", vector::vsubuwm(a, b));
+    show(rt, b"vsubcuw", vector::vsubcuw(a, b));
+    marked(rt, b"vsububs", vector::vsububs(a, b));
+    marked(rt, b"vsubuhs", vector::vsubuhs(a, b));
 }
 
-fn group_2(a: [u8; 16], b: [u8; 16], c: [u8; 16], i: u8) {
-    marked(b"vsubuws", vector::vsubuws(a, b));
-    marked(b"vsubsbs", vector::vsubsbs(a, b));
-    marked(b"vsubshs", vector::vsubshs(a, b));
-    marked(b"vsubsws", vector::vsubsws(a, b));
-    show(b"vmaxub", vector::vmaxub(a, b));
-    show(b"vmaxuh", vector::vmaxuh(a, b));
-    show(b"vmaxuw", vector::vmaxuw(a, b));
-    show(b"vmaxsb", vector::vmaxsb(a, b));
+fn group_2(rt: &impl Print, a: [u8; 16], b: [u8; 16], c: [u8; 16], i: u8) {
+    marked(rt, b"vsubuws", vector::vsubuws(a, b));
+    marked(rt, b"vsubsbs", vector::vsubsbs(a, b));
+    marked(rt, b"vsubshs", vector::vsubshs(a, b));
+    marked(rt, b"vsubsws", vector::vsubsws(a, b));
+    show(rt, b"vmaxub", vector::vmaxub(a, b));
+    show(rt, b"vmaxuh", vector::vmaxuh(a, b));
+    show(rt, b"vmaxuw", vector::vmaxuw(a, b));
+    show(rt, b"vmaxsb", vector::vmaxsb(a, b));
 }
 
-fn group_3(a: [u8; 16], b: [u8; 16], c: [u8; 16], i: u8) {
-    show(b"vmaxsh", vector::vmaxsh(a, b));
-    show(b"vmaxsw", vector::vmaxsw(a, b));
-    show(b"vminub", vector::vminub(a, b));
-    show(b"vminuh", vector::vminuh(a, b));
-    show(b"vminuw", vector::vminuw(a, b));
-    show(b"vminsb", vector::vminsb(a, b));
-    show(b"vminsh", vector::vminsh(a, b));
-    show(b"vminsw", vector::vminsw(a, b));
+fn group_3(rt: &impl Print, a: [u8; 16], b: [u8; 16], c: [u8; 16], i: u8) {
+    show(rt, b"vmaxsh", vector::vmaxsh(a, b));
+    show(rt, b"vmaxsw", vector::vmaxsw(a, b));
+    show(rt, b"vminub", vector::vminub(a, b));
+    show(rt, b"vminuh", vector::vminuh(a, b));
+    show(rt, b"vminuw", vector::vminuw(a, b));
+    show(rt, b"vminsb", vector::vminsb(a, b));
+    show(rt, b"vminsh", vector::vminsh(a, b));
+    show(rt, b"vminsw", vector::vminsw(a, b));
 }
 
-fn group_4(a: [u8; 16], b: [u8; 16], c: [u8; 16], i: u8) {
-    show(b"vavgub", vector::vavgub(a, b));
-    show(b"vavguh", vector::vavguh(a, b));
-    show(b"vavguw", vector::vavguw(a, b));
-    show(b"vavgsb", vector::vavgsb(a, b));
-    show(b"vavgsh", vector::vavgsh(a, b));
-    show(b"vavgsw", vector::vavgsw(a, b));
-    show(b"vrlb", vector::vrlb(a, b));
-    show(b"vrlh", vector::vrlh(a, b));
+fn group_4(rt: &impl Print, a: [u8; 16], b: [u8; 16], c: [u8; 16], i: u8) {
+    show(rt, b"vavgub", vector::vavgub(a, b));
+    show(rt, b"vavguh", vector::vavguh(a, b));
+    show(rt, b"vavguw", vector::vavguw(a, b));
+    show(rt, b"vavgsb", vector::vavgsb(a, b));
+    show(rt, b"vavgsh", vector::vavgsh(a, b));
+    show(rt, b"vavgsw", vector::vavgsw(a, b));
+    show(rt, b"vrlb", vector::vrlb(a, b));
+    show(rt, b"vrlh", vector::vrlh(a, b));
 }
 
-fn group_5(a: [u8; 16], b: [u8; 16], c: [u8; 16], i: u8) {
-    show(b"vrlw", vector::vrlw(a, b));
-    show(b"vslb", vector::vslb(a, b));
-    show(b"vslh", vector::vslh(a, b));
-    show(b"vslw", vector::vslw(a, b));
-    show(b"vsrb", vector::vsrb(a, b));
-    show(b"vsrh", vector::vsrh(a, b));
-    show(b"vsrw", vector::vsrw(a, b));
-    show(b"vsrab", vector::vsrab(a, b));
+fn group_5(rt: &impl Print, a: [u8; 16], b: [u8; 16], c: [u8; 16], i: u8) {
+    show(rt, b"vrlw", vector::vrlw(a, b));
+    show(rt, b"vslb", vector::vslb(a, b));
+    show(rt, b"vslh", vector::vslh(a, b));
+    show(rt, b"vslw", vector::vslw(a, b));
+    show(rt, b"vsrb", vector::vsrb(a, b));
+    show(rt, b"vsrh", vector::vsrh(a, b));
+    show(rt, b"vsrw", vector::vsrw(a, b));
+    show(rt, b"vsrab", vector::vsrab(a, b));
 }
 
-fn group_6(a: [u8; 16], b: [u8; 16], c: [u8; 16], i: u8) {
-    show(b"vsrah", vector::vsrah(a, b));
-    show(b"vsraw", vector::vsraw(a, b));
-    show(b"vand", vector::vand(a, b));
-    show(b"vandc", vector::vandc(a, b));
-    show(b"vor", vector::vor(a, b));
-    show(b"vxor", vector::vxor(a, b));
-    show(b"vnor", vector::vnor(a, b));
-    show(b"vmuloub", vector::vmuloub(a, b));
+fn group_6(rt: &impl Print, a: [u8; 16], b: [u8; 16], c: [u8; 16], i: u8) {
+    show(rt, b"vsrah", vector::vsrah(a, b));
+    show(rt, b"vsraw", vector::vsraw(a, b));
+    show(rt, b"vand", vector::vand(a, b));
+    show(rt, b"vandc", vector::vandc(a, b));
+    show(rt, b"vor", vector::vor(a, b));
+    show(rt, b"vxor", vector::vxor(a, b));
+    show(rt, b"vnor", vector::vnor(a, b));
+    show(rt, b"vmuloub", vector::vmuloub(a, b));
 }
 
-fn group_7(a: [u8; 16], b: [u8; 16], c: [u8; 16], i: u8) {
-    show(b"vmulouh", vector::vmulouh(a, b));
-    show(b"vmulosb", vector::vmulosb(a, b));
-    show(b"vmulosh", vector::vmulosh(a, b));
-    show(b"vmuleub", vector::vmuleub(a, b));
-    show(b"vmuleuh", vector::vmuleuh(a, b));
-    show(b"vmulesb", vector::vmulesb(a, b));
-    show(b"vmulesh", vector::vmulesh(a, b));
-    marked(b"vsum4ubs", vector::vsum4ubs(a, b));
+fn group_7(rt: &impl Print, a: [u8; 16], b: [u8; 16], c: [u8; 16], i: u8) {
+    show(rt, b"vmulouh", vector::vmulouh(a, b));
+    show(rt, b"vmulosb", vector::vmulosb(a, b));
+    show(rt, b"vmulosh", vector::vmulosh(a, b));
+    show(rt, b"vmuleub", vector::vmuleub(a, b));
+    show(rt, b"vmuleuh", vector::vmuleuh(a, b));
+    show(rt, b"vmulesb", vector::vmulesb(a, b));
+    show(rt, b"vmulesh", vector::vmulesh(a, b));
+    marked(rt, b"vsum4ubs", vector::vsum4ubs(a, b));
 }
 
-fn group_8(a: [u8; 16], b: [u8; 16], c: [u8; 16], i: u8) {
-    marked(b"vsum4sbs", vector::vsum4sbs(a, b));
-    marked(b"vsum4shs", vector::vsum4shs(a, b));
-    show(b"vspltisb", vector::vspltisb(i));
-    show(b"vspltish", vector::vspltish(i));
-    show(b"vspltisw", vector::vspltisw(i));
-    show(b"vcmpequb", vector::vcmpequb(a, b));
-    show(b"vcmpequh", vector::vcmpequh(a, b));
-    show(b"vcmpequw", vector::vcmpequw(a, b));
+fn group_8(rt: &impl Print, a: [u8; 16], b: [u8; 16], c: [u8; 16], i: u8) {
+    marked(rt, b"vsum4sbs", vector::vsum4sbs(a, b));
+    marked(rt, b"vsum4shs", vector::vsum4shs(a, b));
+    show(rt, b"vspltisb", vector::vspltisb(i));
+    show(rt, b"vspltish", vector::vspltish(i));
+    show(rt, b"vspltisw", vector::vspltisw(i));
+    show(rt, b"vcmpequb", vector::vcmpequb(a, b));
+    show(rt, b"vcmpequh", vector::vcmpequh(a, b));
+    show(rt, b"vcmpequw", vector::vcmpequw(a, b));
 }
 
-fn group_9(a: [u8; 16], b: [u8; 16], c: [u8; 16], i: u8) {
-    show(b"vcmpgtub", vector::vcmpgtub(a, b));
-    show(b"vcmpgtuh", vector::vcmpgtuh(a, b));
-    show(b"vcmpgtuw", vector::vcmpgtuw(a, b));
-    show(b"vcmpgtsb", vector::vcmpgtsb(a, b));
-    show(b"vcmpgtsh", vector::vcmpgtsh(a, b));
-    show(b"vcmpgtsw", vector::vcmpgtsw(a, b));
-    marked(b"vmhaddshs", vector::vmhaddshs(a, b, c));
-    marked(b"vmhraddshs", vector::vmhraddshs(a, b, c));
+fn group_9(rt: &impl Print, a: [u8; 16], b: [u8; 16], c: [u8; 16], i: u8) {
+    show(rt, b"vcmpgtub", vector::vcmpgtub(a, b));
+    show(rt, b"vcmpgtuh", vector::vcmpgtuh(a, b));
+    show(rt, b"vcmpgtuw", vector::vcmpgtuw(a, b));
+    show(rt, b"vcmpgtsb", vector::vcmpgtsb(a, b));
+    show(rt, b"vcmpgtsh", vector::vcmpgtsh(a, b));
+    show(rt, b"vcmpgtsw", vector::vcmpgtsw(a, b));
+    marked(rt, b"vmhaddshs", vector::vmhaddshs(a, b, c));
+    marked(rt, b"vmhraddshs", vector::vmhraddshs(a, b, c));
 }
 
-fn group_10(a: [u8; 16], b: [u8; 16], c: [u8; 16], i: u8) {
-    show(b"vmladduhm", vector::vmladduhm(a, b, c));
-    show(b"vmsumubm", vector::vmsumubm(a, b, c));
-    show(b"vmsummbm", vector::vmsummbm(a, b, c));
-    show(b"vmsumuhm", vector::vmsumuhm(a, b, c));
-    marked(b"vmsumuhs", vector::vmsumuhs(a, b, c));
-    show(b"vmsumshm", vector::vmsumshm(a, b, c));
-    marked(b"vmsumshs", vector::vmsumshs(a, b, c));
-    show(b"vsel", vector::vsel(a, b, c));
+fn group_10(rt: &impl Print, a: [u8; 16], b: [u8; 16], c: [u8; 16], i: u8) {
+    show(rt, b"vmladduhm", vector::vmladduhm(a, b, c));
+    show(rt, b"vmsumubm", vector::vmsumubm(a, b, c));
+    show(rt, b"vmsummbm", vector::vmsummbm(a, b, c));
+    show(rt, b"vmsumuhm", vector::vmsumuhm(a, b, c));
+    marked(rt, b"vmsumuhs", vector::vmsumuhs(a, b, c));
+    show(rt, b"vmsumshm", vector::vmsumshm(a, b, c));
+    marked(rt, b"vmsumshs", vector::vmsumshs(a, b, c));
+    show(rt, b"vsel", vector::vsel(a, b, c));
 }
 
-fn on(a: [u8; 16], b: [u8; 16], c: [u8; 16], i: u8) {
-    group_0(a, b, c, i);
-    group_1(a, b, c, i);
-    group_2(a, b, c, i);
-    group_3(a, b, c, i);
-    group_4(a, b, c, i);
-    group_5(a, b, c, i);
-    group_6(a, b, c, i);
-    group_7(a, b, c, i);
-    group_8(a, b, c, i);
-    group_9(a, b, c, i);
-    group_10(a, b, c, i);
+fn on(rt: &impl Print, a: [u8; 16], b: [u8; 16], c: [u8; 16], i: u8) {
+    group_0(rt, a, b, c, i);
+    group_1(rt, a, b, c, i);
+    group_2(rt, a, b, c, i);
+    group_3(rt, a, b, c, i);
+    group_4(rt, a, b, c, i);
+    group_5(rt, a, b, c, i);
+    group_6(rt, a, b, c, i);
+    group_7(rt, a, b, c, i);
+    group_8(rt, a, b, c, i);
+    group_9(rt, a, b, c, i);
+    group_10(rt, a, b, c, i);
 }
 
-fn examples() {
-    marked(b"vaddsbs", vector::vaddsbs([127; 16], [1; 16]));
-    marked(b"vaddubs", vector::vaddubs([255; 16], [0; 16]));
+fn examples(rt: &impl Print) {
+    marked(rt, b"vaddsbs", vector::vaddsbs([127; 16], [1; 16]));
+    marked(rt, b"vaddubs", vector::vaddubs([255; 16], [0; 16]));
     marked(
+        rt,
         b"vsubsws",
         vector::vsubsws(
             [128, 0, 0, 0, 128, 0, 0, 0, 128, 0, 0, 0, 128, 0, 0, 0],
             [0, 0, 0, 1, 0, 0, 0, 1, 0, 0, 0, 1, 0, 0, 0, 1],
         ),
     );
-    show(b"vavgsb", vector::vavgsb([255; 16], [254; 16]));
-    show(b"vavgsb", vector::vavgsb([255; 16], [253; 16]));
+    show(rt, b"vavgsb", vector::vavgsb([255; 16], [254; 16]));
+    show(rt, b"vavgsb", vector::vavgsb([255; 16], [253; 16]));
     marked(
+        rt,
         b"vmhaddshs",
         vector::vmhaddshs(
             [
@@ -163,6 +165,7 @@ fn examples() {
         ),
     );
     marked(
+        rt,
         b"vmhaddshs",
         vector::vmhaddshs(
             [
@@ -175,6 +178,7 @@ fn examples() {
         ),
     );
     marked(
+        rt,
         b"vmhraddshs",
         vector::vmhraddshs(
             [255; 16],
@@ -183,6 +187,7 @@ fn examples() {
         ),
     );
     marked(
+        rt,
         b"vmhaddshs",
         vector::vmhaddshs(
             [255; 16],
@@ -191,6 +196,7 @@ fn examples() {
         ),
     );
     marked(
+        rt,
         b"vmsumshs",
         vector::vmsumshs(
             [
@@ -203,6 +209,7 @@ fn examples() {
         ),
     );
     show(
+        rt,
         b"vsubcuw",
         vector::vsubcuw(
             [0, 0, 0, 5, 0, 0, 0, 5, 0, 0, 0, 5, 0, 0, 0, 5],
@@ -210,18 +217,20 @@ fn examples() {
         ),
     );
     show(
+        rt,
         b"vsubcuw",
         vector::vsubcuw(
             [0, 0, 0, 4, 0, 0, 0, 4, 0, 0, 0, 4, 0, 0, 0, 4],
             [0, 0, 0, 5, 0, 0, 0, 5, 0, 0, 0, 5, 0, 0, 0, 5],
         ),
     );
-    show(b"vrlb", vector::vrlb([129; 16], [9; 16]));
+    show(rt, b"vrlb", vector::vrlb([129; 16], [9; 16]));
 }
 
-fn main() {
-    examples();
+fn main(rt: HostRuntime) {
+    examples(&rt);
     on(
+        &rt,
         [
             127, 255, 128, 0, 1, 255, 128, 1, 127, 255, 255, 255, 128, 0, 0, 0,
         ],
@@ -232,6 +241,7 @@ fn main() {
         0,
     );
     on(
+        &rt,
         [128, 0, 128, 0, 127, 255, 127, 255, 128, 0, 0, 0, 0, 1, 0, 1],
         [
             128, 0, 128, 0, 127, 255, 127, 255, 0, 0, 0, 1, 255, 255, 0, 1,
@@ -242,6 +252,7 @@ fn main() {
         15,
     );
     on(
+        &rt,
         [
             255, 255, 255, 255, 255, 255, 255, 255, 0, 0, 0, 5, 0, 0, 0, 255,
         ],
@@ -254,6 +265,7 @@ fn main() {
         16,
     );
     on(
+        &rt,
         [
             1, 35, 69, 103, 137, 171, 205, 239, 254, 220, 186, 152, 118, 84, 50, 16,
         ],
