@@ -1,7 +1,7 @@
 // Files, whole. What goes wrong is told on standard error, in a line that names the file.
 #![tactic(auto)]
 
-ghost use Rattle.std.specs.Prelude.{◌≡◌, length};
+ghost use Rattle.std.specs.Prelude.{◌≡◌, IsUtf8, MatchResult, length};
 ghost use Rattle.std.specs.Io.{ReadsAtMost};
 ghost use Rattle.lines.specs.Lines.{Counts};
 
