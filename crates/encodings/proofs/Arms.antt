@@ -9,7 +9,7 @@ use borrow.Author.Tests.{ne_eqb}
 use Rattle.encodings.specs.Bits.{pick}
 use Rattle.encodings.specs.Encodings.{Row}
 use Rattle.encodings.specs.declared.ops.Op.{Op}
-use Rattle.encodings.specs.declared.ops.Op.TheVariants.{Unknown}
+use Rattle.std.specs.Prelude.{Option, None}
 use Rattle.encodings.proofs.Table.{listed, agree}
 
 -- the numbers of the rows, and of those rows whose low six bits are j
@@ -43,12 +43,12 @@ module _ (n : ℕ) where
   none ks h = from Unit ks h
 
 -- f where it is given one of the codes
-abbrev pub only : List ℕ → (ℕ → Op) → ℕ → Op
-only ks f n = pick (among n ks) (f n) Unknown
+abbrev pub only : List ℕ → (ℕ → Option Op) → ℕ → Option Op
+only ks f n = pick (among n ks) (f n) None
 
-module _ (f : ℕ → Op) (j step size : ℕ) (ks : List ℕ) where
+module _ (f : ℕ → Option Op) (j step size : ℕ) (ks : List ℕ) where
   -- at the numbers j, j + step, .. the codes are all that f knows
   pub outside : listed (λ i. f (i * step + j)) 0 size ≡ listed (λ i. only ks f (i * step + j)) 0 size →
-      (n i : ℕ) → i < size → i * step + j ≡ n → Rest n Unit ks → Unknown ≡ f n
+      (n i : ℕ) → i < size → i * step + j ≡ n → Rest n Unit ks → None ≡ f n
   outside e n i h at r =
       sym (rw at at (agree (λ i. f (i * step + j)) (λ i. only ks f (i * step + j)) size e i h) ∙ rw (none n ks r))

@@ -9,7 +9,8 @@ use lib.Dec.{eqb, leb}
 use borrow.Author.Tests.{eqb-true, eqb-false, ne_eqb}
 use Rattle.encodings.specs.Bits.{bits, pick}
 use Rattle.encodings.specs.Encodings.{Form, eleven, ten, six, indexed, alone, code, Section, sections, look, op_of, op_at}
-use Rattle.encodings.specs.declared.ops.Op.TheVariants.{Unknown, AddImmediate}
+use Rattle.encodings.specs.declared.ops.Op.TheVariants.{AddImmediate}
+use Rattle.std.specs.Prelude.{Some, None}
 use Rattle.encodings.proofs.Table.{agree}
 use Rattle.encodings.proofs.Arms.{among, Rest, none}
 
@@ -38,11 +39,11 @@ same_op w = same_look sections w
 pub of_primary : (p w : ℕ) → bits 0 5 w ≡ p → op_at p (w % 2048) ≡ op_of w
 of_primary p w h = rw (← h) (same_op w)
 
-pub of_14 : (w : ℕ) → bits 0 5 w ≡ 14 → AddImmediate ≡ op_of w
+pub of_14 : (w : ℕ) → bits 0 5 w ≡ 14 → Some AddImmediate ≡ op_of w
 unfolding op_of
 of_14 w h = rw h
 
-pub of_others : (w : ℕ) → (bits 0 5 w ≡ 4 → ⊥) → (bits 0 5 w ≡ 31 → ⊥) → (bits 0 5 w ≡ 14 → ⊥) → Unknown ≡ op_of w
+pub of_others : (w : ℕ) → (bits 0 5 w ≡ 4 → ⊥) → (bits 0 5 w ≡ 31 → ⊥) → (bits 0 5 w ≡ 14 → ⊥) → None ≡ op_of w
 unfolding op_of
 of_others w h k l = rw (ne_eqb _ _ h, ne_eqb _ _ k, ne_eqb _ _ l)
 
@@ -54,14 +55,14 @@ telling n = pick (leb 32 (n % 64)) (n % 64) (pick (eqb (n % 64) 6) (n % 1024) n)
 abbrev pub columns : List ℕ
 columns = 0 ∷ 2 ∷ 4 ∷ 6 ∷ 8 ∷ 12 ∷ 14 ∷ 32 ∷ 33 ∷ 34 ∷ 36 ∷ 37 ∷ 38 ∷ 39 ∷ 40 ∷ 41 ∷ 42 ∷ 43 ∷ 44 ∷ []
 
-split : (n : ℕ) → n < 2048 → op_at 4 n ≡ pick (among (n % 64) columns) (op_at 4 (telling n)) Unknown
+split : (n : ℕ) → n < 2048 → op_at 4 n ≡ pick (among (n % 64) columns) (op_at 4 (telling n)) None
 unfolding op_of
-split = agree (op_at 4) (λ n. pick (among (n % 64) columns) (op_at 4 (telling n)) Unknown) 2048 refl
+split = agree (op_at 4) (λ n. pick (among (n % 64) columns) (op_at 4 (telling n)) None) 2048 refl
 
-pub in_column : (n j : ℕ) → n < 2048 → n % 64 ≡ j → pick (among j columns) (op_at 4 (pick (leb 32 j) j (pick (eqb j 6) (n % 1024) n))) Unknown ≡ op_at 4 n
+pub in_column : (n j : ℕ) → n < 2048 → n % 64 ≡ j → pick (among j columns) (op_at 4 (pick (leb 32 j) j (pick (eqb j 6) (n % 1024) n))) None ≡ op_at 4 n
 in_column n j h e = sym (rw e at (split n h))
 
-pub in_none : (n : ℕ) → n < 2048 → Rest (n % 64) Unit columns → Unknown ≡ op_at 4 n
+pub in_none : (n : ℕ) → n < 2048 → Rest (n % 64) Unit columns → None ≡ op_at 4 n
 in_none n h r = sym (split n h ∙ rw (none _ columns r))
 
 -- of an indexed form bit 31 tells nothing

@@ -1,11 +1,11 @@
 -- Document 01, "Encodings", line by line and in its order: five sections, by the bits that tell an instruction, and in them a row an instruction.
 -- Assumes nothing.
-use Rattle.std.specs.Prelude.{ℕ, ◌+◌, ◌*◌, ◌^◌, List, [], ◌∷◌, eqb}
+use Rattle.std.specs.Prelude.{ℕ, ◌+◌, ◌*◌, ◌^◌, List, [], ◌∷◌, eqb, Option, Some, None}
 use Rattle.encodings.specs.Bits.{bits, pick}
 use Rattle.encodings.specs.declared.ops.Width.TheVariants.{Byte, Half, Word}
 use Rattle.encodings.specs.declared.ops.Sign.TheVariants.{Unsigned, Signed}
 use Rattle.encodings.specs.declared.ops.Op.{Op}
-use Rattle.encodings.specs.declared.ops.Op.TheVariants.{Unknown, AddMod, AddCarry, AddSat, SubMod, SubCarry, SubSat, Max, Min, Average, Rotate, ShiftLeft, ShiftRight, ShiftAlgebraic, ShiftWholeLeft, ShiftWholeRight, ShiftBytesLeft, ShiftBytesRight, And, AndNot, Or, Xor, Nor, FromStatus, ToStatus, MulOdd, MulEven, SumQuarter, SumHalf, SumAll, MergeHigh, MergeLow, Splat, SplatImmediate, PackMod, PackSat, UnpackHigh, UnpackLow, CompareEqual, CompareGreater, MulHighAdd, MulHighRoundAdd, MulLowAdd, MulSum, MulSumMixed, MulSumSat, Select, Permute, ShiftPair, LoadShiftLeft, LoadShiftRight, LoadElement, LoadLine, StoreElement, StoreLine, AddImmediate}
+use Rattle.encodings.specs.declared.ops.Op.TheVariants.{AddMod, AddCarry, AddSat, SubMod, SubCarry, SubSat, Max, Min, Average, Rotate, ShiftLeft, ShiftRight, ShiftAlgebraic, ShiftWholeLeft, ShiftWholeRight, ShiftBytesLeft, ShiftBytesRight, And, AndNot, Or, Xor, Nor, FromStatus, ToStatus, MulOdd, MulEven, SumQuarter, SumHalf, SumAll, MergeHigh, MergeLow, Splat, SplatImmediate, PackMod, PackSat, UnpackHigh, UnpackLow, CompareEqual, CompareGreater, MulHighAdd, MulHighRoundAdd, MulLowAdd, MulSum, MulSumMixed, MulSumSat, Select, Permute, ShiftPair, LoadShiftLeft, LoadShiftRight, LoadElement, LoadLine, StoreElement, StoreLine, AddImmediate}
 
 -- What tells an instruction: under primary 4 its low eleven bits, of a compare the low ten, of a form with four operands the low six; under
 -- primary 31 bits 21 to 30; addi its primary alone.
@@ -220,19 +220,19 @@ abbrev pub sections : List Section
 sections = section eleven elevens ∷ section ten tens ∷ section six sixes ∷ section indexed indexes ∷ section alone alones ∷ []
 
 -- the operation of the first row with the number n, and o where there is none
-abbrev pub find : Op → ℕ → List Row → Op
+abbrev pub find : Option Op → ℕ → List Row → Option Op
 find o n [] = o
-find o n (r ∷ rs) = pick (eqb n r.number) r.op (find o n rs)
+find o n (r ∷ rs) = pick (eqb n r.number) (Some r.op) (find o n rs)
 
--- the operation of the word w: that of the row with its code in a section of its primary, and Unknown where there is none. That no two rows
--- claim one word, so that their order does not matter, is `unique` of proofs/Unique.
-abbrev pub look : List Section → ℕ → Op
-look [] w = Unknown
+-- the operation of the word w: that of the row with its code in a section of its primary, and none where there is no such row. That no two
+-- rows claim one word, so that their order does not matter, is `unique` of proofs/Unique.
+abbrev pub look : List Section → ℕ → Option Op
+look [] w = None
 look (s ∷ ss) w = pick (eqb (bits 0 5 w) (primary s.form)) (find (look ss w) (code s.form w) s.rows) (look ss w)
 
-unfoldable pub op_of : ℕ → Op
+unfoldable pub op_of : ℕ → Option Op
 op_of w = look sections w
 
 -- the operation of the word with the primary p, the last bits n and else zeros
-abbrev pub op_at : ℕ → ℕ → Op
+abbrev pub op_at : ℕ → ℕ → Option Op
 op_at p n = op_of (p * 2 ^ 26 + n)

@@ -17,8 +17,6 @@ pub enum Sign {
 
 #[derive(Clone, Copy)]
 pub enum Op {
-    // No carried instruction.
-    Unknown,
     // vaddubm, vadduhm, vadduwm
     AddMod(Width),
     // vaddcuw
