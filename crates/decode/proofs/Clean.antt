@@ -9,8 +9,8 @@ use borrow.Author.Tests.{eqb-true, not-false}
 use Rattle.encodings.specs.Bits.{bits}
 use Rattle.encodings.specs.Encodings.{op_of, op_at}
 use Rattle.decode.specs.Reserved.{ends, held, any_of, without}
-use Rattle.decode.specs.Traits.{reserved_of}
-use Rattle.decode.specs.Decode.{run_of, cleared_of}
+use Rattle.decode.specs.Decode.{run_in, run_of, cleared_of}
+use Rattle.std.specs.Prelude.{Option}
 use Rattle.encodings.specs.declared.ops.Op.{Op}
 use Rattle.decode.specs.declared.reserved.Run.TheVariants.{Empty}
 use Rattle.decode.proofs.Runs.{placed, none_left, unchanged, left_of, right_of, low}
@@ -18,8 +18,8 @@ use Rattle.encodings.proofs.Table.{agree}
 use Rattle.encodings.proofs.Words.{of_primary, of_14, of_others, by_primary}
 
 -- the operation of a word that has zeros outside its primary and its low eleven bits, once its reserved bits are cleared
-abbrev steady : ℕ → ℕ → Op
-steady p n = op_at p (without (reserved_of (op_at p n)) n)
+abbrev steady : ℕ → ℕ → Option Op
+steady p n = op_at p (without (run_in (op_at p n)) n)
 
 by_four : (n : ℕ) → n < 2048 → steady 4 n ≡ op_at 4 n
 unfolding op_of
@@ -32,16 +32,16 @@ by_thirty_one = agree (steady 31) (op_at 31) 2048 refl
 -- so is that of every word of the primary
 carry : (p w : ℕ) → bits 0 5 w ≡ p → ((n : ℕ) → n < 2048 → steady p n ≡ op_at p n) → op_of (cleared_of w) ≡ op_of w
 carry p w h f =
-    let run : reserved_of (op_at p (w % 2048)) ≡ run_of w = ap reserved_of (of_primary p w h) in
+    let run : run_in (op_at p (w % 2048)) ≡ run_of w = ap run_in (of_primary p w h) in
     let start : 6 ≤ (ends (run_of w)).0 = (placed (run_of w)).start in
     let kept : bits 0 5 (cleared_of w) ≡ p = left_of (run_of w) w 0 5 (omega arith) ∙ h in
     sym (of_primary p (cleared_of w) kept)
     ∙ (rw (low (run_of w) w, ← run) (f (w % 2048) (omega arith)) ∙ of_primary p w h)
 
 -- an operation that has no reserved bits
-empty : (w : ℕ) (o : Op) → o ≡ op_of w → reserved_of o ≡ Empty → op_of (cleared_of w) ≡ op_of w
+empty : (w : ℕ) (o : Option Op) → o ≡ op_of w → run_in o ≡ Empty → op_of (cleared_of w) ≡ op_of w
 empty w o h e =
-    let run : run_of w ≡ Empty = ap reserved_of (sym h) ∙ e in
+    let run : run_of w ≡ Empty = ap run_in (sym h) ∙ e in
     ap op_of (unchanged (run_of w) w (ap (λ r. held r w) run ∙ mod-one _))
 
 pub same_op : (w : ℕ) → op_of (cleared_of w) ≡ op_of w
@@ -60,7 +60,7 @@ pub record Cleaned (w : ℕ) : Type 0 where
 
 pub clean : (w : ℕ) → Cleaned w
 clean w =
-    let run : run_of (cleared_of w) ≡ run_of w = ap reserved_of (same_op w) in
+    let run : run_of (cleared_of w) ≡ run_of w = ap run_in (same_op w) in
     let zero : held (run_of (cleared_of w)) (cleared_of w) ≡ 0 = ap (λ r. held r (cleared_of w)) run ∙ none_left (run_of w) w in
     record {
       op = same_op w;

@@ -9,7 +9,7 @@ use Rattle.decode.specs.declared.reserved.Run.TheVariants.{Empty, Last, BeforeCo
 use Rattle.encodings.specs.declared.ops.Width.{Width}
 use Rattle.encodings.specs.declared.ops.Width.TheVariants.{Byte, Half, Word}
 use Rattle.encodings.specs.declared.ops.Op.{Op}
-use Rattle.encodings.specs.declared.ops.Op.TheVariants.{Unknown, AddMod, AddCarry, AddSat, SubMod, SubCarry, SubSat, Max, Min, Average, Rotate, ShiftLeft, ShiftRight, ShiftAlgebraic, ShiftWholeLeft, ShiftWholeRight, ShiftBytesLeft, ShiftBytesRight, And, AndNot, Or, Xor, Nor, FromStatus, ToStatus, MulOdd, MulEven, SumQuarter, SumHalf, SumAll, MergeHigh, MergeLow, Splat, SplatImmediate, PackMod, PackSat, UnpackHigh, UnpackLow, CompareEqual, CompareGreater, MulHighAdd, MulHighRoundAdd, MulLowAdd, MulSum, MulSumMixed, MulSumSat, Select, Permute, ShiftPair, LoadShiftLeft, LoadShiftRight, LoadElement, LoadLine, StoreElement, StoreLine, AddImmediate}
+use Rattle.encodings.specs.declared.ops.Op.TheVariants.{AddMod, AddCarry, AddSat, SubMod, SubCarry, SubSat, Max, Min, Average, Rotate, ShiftLeft, ShiftRight, ShiftAlgebraic, ShiftWholeLeft, ShiftWholeRight, ShiftBytesLeft, ShiftBytesRight, And, AndNot, Or, Xor, Nor, FromStatus, ToStatus, MulOdd, MulEven, SumQuarter, SumHalf, SumAll, MergeHigh, MergeLow, Splat, SplatImmediate, PackMod, PackSat, UnpackHigh, UnpackLow, CompareEqual, CompareGreater, MulHighAdd, MulHighRoundAdd, MulLowAdd, MulSum, MulSumMixed, MulSumSat, Select, Permute, ShiftPair, LoadShiftLeft, LoadShiftRight, LoadElement, LoadLine, StoreElement, StoreLine, AddImmediate}
 
 -- Vectors: whether A, B, C and D are read, and whether D is written.
 
@@ -65,7 +65,6 @@ before_lane Word = BeforeWordLane
 
 -- the vectors, whether it can clip, whether it is position-bound, its reserved bits
 abbrev pub traits_of : Op → Traits
-traits_of Unknown = (none, exact, free, Empty)
 traits_of (AddMod w) = (two, exact, free, Empty)
 traits_of AddCarry = (two, exact, free, Empty)
 traits_of (AddSat w s) = (two, clips, free, Empty)

@@ -5,18 +5,18 @@ pub mod reserved;
 pub mod traits;
 
 ghost use Rattle.std.specs.Prelude.{◌≡◌};
-ghost use Rattle.decode.specs.Decode.{decode_of, cleared_of};
+ghost use Rattle.decode.specs.Decode.{run_in, decode_of, cleared_of};
 
 use encodings::operation;
 use encodings::ops::Op;
-use reserved::{any, clear};
+use reserved::{Run, any, clear};
 use traits::reserved;
 
 // A word taken apart.
 #[derive(Clone, Copy)]
 pub struct Decoded {
-    // The operation; answer 5 where it is Unknown.
-    pub op: Op,
+    // The operation; none where the word carries no instruction, which is answer 5.
+    pub op: Option<Op>,
     // Whether a reserved bit is set: answer 6.
     pub stray: bool,
     pub d: usize,
@@ -32,20 +32,26 @@ pub struct Decoded {
     pub imm: u32,
 }
 
+// The reserved bits of an operation; none where there is no instruction.
+fn run_of(op: Option<Op>) -> Run
+    ensures { result ≡ run_in op }
+{
+    op.map_or(Run::Empty, reserved)
+}
+
 pub fn decode(word: u32) -> Decoded
     ensures { result ≡ decode_of word }
 {
     let op = operation(word);
-    let run = reserved(op);
-    let stray = any(run, word);
+    let stray = any(run_of(op), word);
     let d = word / 2097152 % 32;
     let a = word / 65536 % 32;
     let b = word / 2048 % 32;
     let c = word / 64 % 32;
     let count = word / 64 % 16;
     Decoded {
-        op: op,
-        stray: stray,
+        op,
+        stray,
         d: d as usize,
         a: a as usize,
         b: b as usize,
@@ -56,11 +62,9 @@ pub fn decode(word: u32) -> Decoded
     }
 }
 
-// The word with its reserved bits cleared; an Unknown word has none.
+// The word with its reserved bits cleared; one that carries no instruction has none.
 pub fn cleared(word: u32) -> u32
     ensures { result ≡ cleared_of word }
 {
-    let op = operation(word);
-    let run = reserved(op);
-    clear(run, word)
+    clear(run_of(operation(word)), word)
 }

@@ -53,7 +53,6 @@ fn traits_of(op: Op) -> Traits
     ensures { result ≡ traits_of op }
 {
     match op {
-        Op::Unknown => Traits(NONE, EXACT, FREE, Run::Empty),
         Op::AddMod(_) => Traits(TWO, EXACT, FREE, Run::Empty),
         Op::AddCarry => Traits(TWO, EXACT, FREE, Run::Empty),
         Op::AddSat(_, _) => Traits(TWO, CLIPS, FREE, Run::Empty),

@@ -4,4 +4,4 @@ use native.Mathlib.Nat.{div-one}
 use Rattle.decode.proofs.decode.Goals as goal
 
 pub returns : goal.returns
-returns c = rw (c.any-stray.ensures, c.reserved-run.ensures, c.operation-op.ensures, div-one)
+returns c = rw (c.any-stray.ensures, c.run_of.ensures, c.operation-op.ensures, div-one)
