@@ -1,11 +1,9 @@
 -- Document 01, "Addresses".
 -- Assumes nothing.
-use Rattle.std.specs.Prelude.{ℕ, ◌+◌, ◌-◌, ◌*◌, ◌/◌, ◌%◌, ◌^◌, Bool, false, List, ◌==◌, nat_le, nat_lt, slice_index}
+use Rattle.std.specs.Prelude.{ℕ, ◌+◌, ◌-◌, ◌*◌, ◌/◌, ◌%◌, ◌^◌, Bool, false, List, ◌==◌, nat_le, nat_lt, slice_index, Option, Some, None}
 use Rattle.encodings.specs.Bits.{pick}
 use Rattle.encodings.specs.declared.ops.Width.{Width}
 use Rattle.encodings.specs.declared.ops.Width.TheVariants.{Byte, Half, Word}
-use Rattle.control.specs.declared.addresses.Item.{Item}
-use Rattle.control.specs.declared.addresses.Item.TheVariants.{At, Missing}
 
 -- rA, or the number 0 where the field is 0
 unfoldable pub or_zero : List ℕ → ℕ → ℕ
@@ -34,8 +32,8 @@ abbrev pub aligned : ℕ → ℕ → ℕ
 aligned n x = x / n * n
 
 -- the item at address e, if it is in a memory of len bytes at base: where it starts, counted from the memory's first byte
-unfoldable pub item_of : ℕ → ℕ → ℕ → Item
-item_of e base len = pick (nat_le base e) (pick (nat_lt e (base + len)) (At (e - base)) Missing) Missing
+unfoldable pub item_of : ℕ → ℕ → ℕ → Option ℕ
+item_of e base len = pick (nat_le base e) (pick (nat_lt e (base + len)) (Some (e - base)) None) None
 
 -- the memory is well placed
 unfoldable pub well_placed : ℕ → ℕ → Bool

@@ -1,13 +1,11 @@
 -- How control treats each operation.
 -- Assumes nothing.
-use Rattle.std.specs.Prelude.{Bool, true, false}
 use Rattle.encodings.specs.declared.ops.Op.{Op}
-use Rattle.encodings.specs.declared.ops.Op.TheVariants.{Unknown, AddMod, AddCarry, AddSat, SubMod, SubCarry, SubSat, Max, Min, Average, Rotate, ShiftLeft, ShiftRight, ShiftAlgebraic, ShiftWholeLeft, ShiftWholeRight, ShiftBytesLeft, ShiftBytesRight, And, AndNot, Or, Xor, Nor, FromStatus, ToStatus, MulOdd, MulEven, SumQuarter, SumHalf, SumAll, MergeHigh, MergeLow, Splat, SplatImmediate, PackMod, PackSat, UnpackHigh, UnpackLow, CompareEqual, CompareGreater, MulHighAdd, MulHighRoundAdd, MulLowAdd, MulSum, MulSumMixed, MulSumSat, Select, Permute, ShiftPair, LoadShiftLeft, LoadShiftRight, LoadElement, LoadLine, StoreElement, StoreLine, AddImmediate}
+use Rattle.encodings.specs.declared.ops.Op.TheVariants.{AddMod, AddCarry, AddSat, SubMod, SubCarry, SubSat, Max, Min, Average, Rotate, ShiftLeft, ShiftRight, ShiftAlgebraic, ShiftWholeLeft, ShiftWholeRight, ShiftBytesLeft, ShiftBytesRight, And, AndNot, Or, Xor, Nor, FromStatus, ToStatus, MulOdd, MulEven, SumQuarter, SumHalf, SumAll, MergeHigh, MergeLow, Splat, SplatImmediate, PackMod, PackSat, UnpackHigh, UnpackLow, CompareEqual, CompareGreater, MulHighAdd, MulHighRoundAdd, MulLowAdd, MulSum, MulSumMixed, MulSumSat, Select, Permute, ShiftPair, LoadShiftLeft, LoadShiftRight, LoadElement, LoadLine, StoreElement, StoreLine, AddImmediate}
 use Rattle.control.specs.declared.kinds.Kind.{Kind}
-use Rattle.control.specs.declared.kinds.Kind.TheVariants.{Absent, Vector, GetStatus, PutStatus, LeftPattern, RightPattern, GetElement, GetLine, PutElement, PutLine, AddScalar}
+use Rattle.control.specs.declared.kinds.Kind.TheVariants.{Vector, GetStatus, PutStatus, LeftPattern, RightPattern, GetElement, GetLine, PutElement, PutLine, AddScalar}
 
 abbrev pub kind_of : Op → Kind
-kind_of Unknown = Absent
 kind_of (AddMod w) = Vector
 kind_of AddCarry = Vector
 kind_of (AddSat w s) = Vector
@@ -63,16 +61,3 @@ kind_of LoadLine = GetLine
 kind_of (StoreElement w) = PutElement w
 kind_of StoreLine = PutLine
 kind_of AddImmediate = AddScalar
-
-abbrev pub is_absent : Kind → Bool
-is_absent Absent = true
-is_absent Vector = false
-is_absent GetStatus = false
-is_absent PutStatus = false
-is_absent LeftPattern = false
-is_absent RightPattern = false
-is_absent (GetElement w) = false
-is_absent GetLine = false
-is_absent (PutElement w) = false
-is_absent PutLine = false
-is_absent AddScalar = false

@@ -4,24 +4,16 @@ ghost use Rattle.control.specs.Addresses.{or_zero, address_of, extended, sum_of,
 
 use encodings::ops::Width;
 
-// An item of the memory: where it starts, counted from the memory's first byte.
-#[derive(Clone, Copy)]
-pub enum Item {
-    At(usize),
-    Missing,
-}
-
 // rA, or the number 0 where the field is 0.
+#[tactic(auto, unfolding(crate::specs::Addresses::or_zero))]
 fn or_zero(g: &[u32; 32], a: usize) -> u32
     requires { a < 32 }
     ensures { result ≡ or_zero g.now a }
 {
-    if a == 0 {
-        return 0;
-    }
-    g[a]
+    if a == 0 { 0 } else { g[a] }
 }
 
+#[tactic(auto, unfolding(crate::specs::Addresses::address_of))]
 pub fn address(g: &[u32; 32], a: usize, b: usize) -> u32
     requires { (a < 32) × (b < 32) }
     ensures { result ≡ address_of g.now a b }
@@ -30,17 +22,16 @@ pub fn address(g: &[u32; 32], a: usize, b: usize) -> u32
 }
 
 // An immediate of sixteen bits, sign-extended.
+#[tactic(auto, unfolding(crate::specs::Addresses::extended))]
 fn extend(n: u32) -> u32
     requires { n < 65536 }
     ensures { result ≡ extended n }
 {
-    if n < 32768 {
-        return n;
-    }
-    n + 4294901760
+    if n < 32768 { n } else { n + 4294901760 }
 }
 
 // addi
+#[tactic(auto, unfolding(crate::specs::Addresses::sum_of))]
 pub fn sum(g: &[u32; 32], a: usize, n: u32) -> u32
     requires { (a < 32) × (n < 65536) }
     ensures { result ≡ sum_of g.now a n }
@@ -70,16 +61,11 @@ pub fn element(x: u32, width: Width) -> u32
     }
 }
 
-// The item at address e, in a memory of length bytes at base.
-pub fn find(e: u32, base: u32, length: usize) -> Item
+// Where the item at address e starts in a memory of length bytes at base, counted from the memory's first byte; none where it is outside.
+#[tactic(auto, unfolding(crate::specs::Addresses::item_of))]
+pub fn find(e: u32, base: u32, length: usize) -> Option<usize>
     ensures { result ≡ item_of e base length }
 {
-    if base <= e {
-        let k = (e - base) as usize;
-        if k < length {
-            return Item::At(k);
-        }
-        return Item::Missing;
-    }
-    Item::Missing
+    let k = e.checked_sub(base)? as usize;
+    if k < length { Some(k) } else { None }
 }

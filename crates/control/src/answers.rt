@@ -23,17 +23,19 @@ pub enum Answer {
 }
 
 // The number that the run gives back.
-pub fn number(a: Answer) -> u32
-    ensures { result ≡ number_of a }
-{
-    match a {
-        Answer::Done => 0,
-        Answer::Spent => 1,
-        Answer::Misplaced => 2,
-        Answer::LongCode => 3,
-        Answer::BadStart => 4,
-        Answer::NoInstruction => 5,
-        Answer::Reserved => 6,
-        Answer::Outside => 7,
+impl From<Answer> for u32 {
+    ghost from_gives = { λ answer number. number ≡ number_of answer };
+
+    fn from(answer: Answer) -> u32 {
+        match answer {
+            Answer::Done => 0,
+            Answer::Spent => 1,
+            Answer::Misplaced => 2,
+            Answer::LongCode => 3,
+            Answer::BadStart => 4,
+            Answer::NoInstruction => 5,
+            Answer::Reserved => 6,
+            Answer::Outside => 7,
+        }
     }
 }

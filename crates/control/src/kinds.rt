@@ -1,13 +1,11 @@
 // How control treats each operation.
 ghost use Rattle.std.specs.Prelude.{◌≡◌};
-ghost use Rattle.control.specs.Kinds.{kind_of, is_absent};
+ghost use Rattle.control.specs.Kinds.{kind_of};
 
 use encodings::ops::{Op, Width};
 
 #[derive(Clone, Copy)]
 pub enum Kind {
-    // No carried instruction.
-    Absent,
     // It works on vectors alone.
     Vector,
     // mfvscr
@@ -34,7 +32,6 @@ pub fn kind_of(op: Op) -> Kind
     ensures { result ≡ kind_of op }
 {
     match op {
-        Op::Unknown => Kind::Absent,
         Op::AddMod(_) => Kind::Vector,
         Op::AddCarry => Kind::Vector,
         Op::AddSat(_, _) => Kind::Vector,
@@ -90,23 +87,5 @@ pub fn kind_of(op: Op) -> Kind
         Op::StoreElement(width) => Kind::PutElement(width),
         Op::StoreLine => Kind::PutLine,
         Op::AddImmediate => Kind::AddScalar,
-    }
-}
-
-pub fn is_absent(k: Kind) -> bool
-    ensures { result ≡ is_absent k }
-{
-    match k {
-        Kind::Absent => true,
-        Kind::Vector => false,
-        Kind::GetStatus => false,
-        Kind::PutStatus => false,
-        Kind::LeftPattern => false,
-        Kind::RightPattern => false,
-        Kind::GetElement(_) => false,
-        Kind::GetLine => false,
-        Kind::PutElement(_) => false,
-        Kind::PutLine => false,
-        Kind::AddScalar => false,
     }
 }

@@ -12,34 +12,25 @@ ghost use Rattle.std.specs.Prelude.{◌≡◌};
 ghost use Rattle.control.specs.Addresses.{well_placed};
 ghost use Rattle.control.specs.Orders.{InFields, Controls};
 
+use answers::Answer;
 use decode::Decoded;
 use ordering::{order_for, set_general};
 use orders::Order;
 
-// The order for a word; of an addi, the general register is set.
-pub fn control(w: Decoded, g: &mut [u32; 32], base: u32, length: usize) -> Order
+// The order for a word, or the answer that refuses it; of an addi, the general register is set.
+pub fn control(w: Decoded, g: &mut [u32; 32], base: u32, length: usize) -> Result<Order, Answer>
     requires { InFields w }
     ensures { Controls w g.old base length result g.new }
 {
-    let o = order_for(w, g, base, length);
-    set_general(o, w.d, g);
-    o
+    let order = order_for(w, g, base, length)?;
+    set_general(order, w.d, g);
+    Ok(order)
 }
 
 // Whether a memory of length bytes at base is well placed.
+#[tactic(auto, unfolding(crate::specs::Addresses::well_placed))]
 pub fn well_placed(base: u32, length: usize) -> bool
     ensures { result ≡ well_placed base length }
 {
-    let a = base % 16;
-    let b = length % 16;
-    if a != 0 {
-        return false;
-    }
-    if b != 0 {
-        return false;
-    }
-    if 65536 < length {
-        return false;
-    }
-    base as usize + length <= 4294967296
+    base % 16 == 0 && length % 16 == 0 && length <= 65536 && base as usize + length <= 4294967296
 }

@@ -1,91 +1,78 @@
 // The order for a word, and what it does to the general registers.
-ghost use Rattle.std.specs.Prelude.{◌≡◌, ◌<◌};
-ghost use Rattle.control.specs.Addresses.{bytes_of};
-ghost use Rattle.control.specs.Orders.{reached, read_element, write_element, order_of, general_of, InFields};
+ghost use Rattle.std.specs.Prelude.{◌≡◌, ◌<◌, ok_or, option_map};
+ghost use Rattle.control.specs.Addresses.{address_of, sum_of, bytes_of, aligned, item_of};
+ghost use Rattle.control.specs.Kinds.{kind_of};
+ghost use Rattle.control.specs.Orders.{element, order_in, order_of, general_of, InFields};
 
-use crate::addresses::{Item, address, bytes, element, find, sum};
+use crate::addresses::{address, bytes, element, find, sum};
 use crate::answers::Answer;
-use crate::kinds::{Kind, is_absent, kind_of};
-use crate::orders::Order;
+use crate::kinds::{Kind, kind_of};
+use crate::orders::{Element, Order};
 use decode::Decoded;
-use encodings::ops::Width;
+use encodings::ops::{Op, Width};
 
-fn read_line(i: Item) -> Order
-    ensures { result ≡ reached i Order.ReadLine }
+// The line with the byte at address x, or answer 7.
+fn line_at(x: u32, base: u32, length: usize) -> Result<usize, Answer>
+    ensures { result ≡ ok_or (item_of (aligned 16 x) base length) Answer.Outside }
 {
-    match i {
-        Item::At(k) => Order::ReadLine(k),
-        Item::Missing => Order::Refuse(Answer::Outside),
-    }
+    find(x / 16 * 16, base, length).ok_or(Answer::Outside)
 }
 
-fn write_line(i: Item) -> Order
-    ensures { result ≡ reached i Order.WriteLine }
+// The element of that width with the byte at address x, or answer 7.
+fn element_at(x: u32, width: Width, base: u32, length: usize) -> Result<Element, Answer>
+    ensures { result ≡ ok_or (option_map (element (aligned (bytes_of width) x) (bytes_of width)) (item_of (aligned (bytes_of width) x) base length)) Answer.Outside }
 {
-    match i {
-        Item::At(k) => Order::WriteLine(k),
-        Item::Missing => Order::Refuse(Answer::Outside),
-    }
+    let e = element(x, width);
+    let k = find(e, base, length).ok_or(Answer::Outside)?;
+    Ok(Element {
+        at: k / 16 * 16,
+        place: (e % 16) as usize,
+        bytes: bytes(width),
+    })
 }
 
-fn read_element(i: Item, e: u32, width: Width) -> Order
-    ensures { result ≡ reached i (read_element e (bytes_of width)) }
+// What the kind of an operation orders, or answer 7 where its item is outside the memory.
+fn order_in(op: Op, w: Decoded, g: &[u32; 32], base: u32, length: usize) -> Result<Order, Answer>
+    requires { InFields w }
+    ensures { result ≡ order_in (kind_of op) op (address_of g.now w.a w.b) (sum_of g.now w.a w.imm) base length }
 {
-    match i {
-        Item::At(k) => Order::ReadElement {
-            at: k / 16 * 16,
-            place: (e % 16) as usize,
-            bytes: bytes(width),
-        },
-        Item::Missing => Order::Refuse(Answer::Outside),
-    }
-}
-
-fn write_element(i: Item, e: u32, width: Width) -> Order
-    ensures { result ≡ reached i (write_element e (bytes_of width)) }
-{
-    match i {
-        Item::At(k) => Order::WriteElement {
-            at: k / 16 * 16,
-            place: (e % 16) as usize,
-            bytes: bytes(width),
-        },
-        Item::Missing => Order::Refuse(Answer::Outside),
+    match kind_of(op) {
+        Kind::Vector => Ok(Order::Compute(op)),
+        Kind::GetStatus => Ok(Order::ReadStatus),
+        Kind::PutStatus => Ok(Order::WriteStatus),
+        Kind::LeftPattern => Ok(Order::PatternLeft((address(g, w.a, w.b) % 16) as usize)),
+        Kind::RightPattern => Ok(Order::PatternRight((address(g, w.a, w.b) % 16) as usize)),
+        Kind::GetElement(width) => {
+            let e = element_at(address(g, w.a, w.b), width, base, length)?;
+            Ok(Order::ReadElement(e))
+        }
+        Kind::GetLine => {
+            let k = line_at(address(g, w.a, w.b), base, length)?;
+            Ok(Order::ReadLine(k))
+        }
+        Kind::PutElement(width) => {
+            let e = element_at(address(g, w.a, w.b), width, base, length)?;
+            Ok(Order::WriteElement(e))
+        }
+        Kind::PutLine => {
+            let k = line_at(address(g, w.a, w.b), base, length)?;
+            Ok(Order::WriteLine(k))
+        }
+        Kind::AddScalar => Ok(Order::SetGeneral(sum(g, w.a, w.imm))),
     }
 }
 
 // The order for a word: answer 5, then 6, then 7.
-pub fn order_for(w: Decoded, g: &[u32; 32], base: u32, length: usize) -> Order
+#[tactic(auto, unfolding(crate::specs::Orders::order_of))]
+pub fn order_for(w: Decoded, g: &[u32; 32], base: u32, length: usize) -> Result<Order, Answer>
     requires { InFields w }
     ensures { result ≡ order_of w g.now base length }
 {
-    let op = w.op;
-    let k = kind_of(op);
-    if is_absent(k) {
-        return Order::Refuse(Answer::NoInstruction);
-    }
+    let op = w.op.ok_or(Answer::NoInstruction)?;
     if w.stray {
-        return Order::Refuse(Answer::Reserved);
+        return Err(Answer::Reserved);
     }
-    match k {
-        Kind::Absent => Order::Refuse(Answer::NoInstruction),
-        Kind::Vector => Order::Compute,
-        Kind::GetStatus => Order::ReadStatus,
-        Kind::PutStatus => Order::WriteStatus,
-        Kind::LeftPattern => Order::PatternLeft((address(g, w.a, w.b) % 16) as usize),
-        Kind::RightPattern => Order::PatternRight((address(g, w.a, w.b) % 16) as usize),
-        Kind::GetElement(width) => {
-            let e = element(address(g, w.a, w.b), width);
-            read_element(find(e, base, length), e, width)
-        }
-        Kind::GetLine => read_line(find(address(g, w.a, w.b) / 16 * 16, base, length)),
-        Kind::PutElement(width) => {
-            let e = element(address(g, w.a, w.b), width);
-            write_element(find(e, base, length), e, width)
-        }
-        Kind::PutLine => write_line(find(address(g, w.a, w.b) / 16 * 16, base, length)),
-        Kind::AddScalar => Order::SetGeneral(sum(g, w.a, w.imm)),
-    }
+    order_in(op, w, g, base, length)
 }
 
 // The general registers after an order, D being d.
@@ -94,26 +81,7 @@ pub fn set_general(o: Order, d: usize, g: &mut [u32; 32])
     ensures { g.new ≡ general_of o d g.old }
 {
     match o {
-        Order::Refuse(_) => {}
-        Order::SetGeneral(value) => {
-            g[d] = value;
-        }
-        Order::Compute => {}
-        Order::ReadStatus => {}
-        Order::WriteStatus => {}
-        Order::PatternLeft(_) => {}
-        Order::PatternRight(_) => {}
-        Order::ReadLine(_) => {}
-        Order::WriteLine(_) => {}
-        Order::ReadElement {
-            at: _,
-            place: _,
-            bytes: _,
-        } => {}
-        Order::WriteElement {
-            at: _,
-            place: _,
-            bytes: _,
-        } => {}
+        Order::SetGeneral(value) => g[d] = value,
+        _ => {}
     }
 }

@@ -1,18 +1,22 @@
 // What is to be done for a word.
-ghost use Rattle.std.specs.Prelude.{◌≡◌};
-ghost use Rattle.control.specs.Orders.{refuses, refusal_of};
 
-use crate::answers::Answer;
+use encodings::ops::Op;
 
-// What is to be done. The registers, and a vector instruction's operation, are those of the decoded word.
+// Bytes of a line of the memory: where the line starts, their place in it, and how many they are.
+#[derive(Clone, Copy)]
+pub struct Element {
+    pub at: usize,
+    pub place: usize,
+    pub bytes: usize,
+}
+
+// What is to be done. The registers are those of the decoded word.
 #[derive(Clone, Copy)]
 pub enum Order {
-    // Nothing: the run ends with this answer.
-    Refuse(Answer),
     // addi: general register D gets this value.
     SetGeneral(u32),
     // The vector instruction.
-    Compute,
+    Compute(Op),
     // mfvscr: D gets the status word.
     ReadStatus,
     // mtvscr: the status word is taken from B.
@@ -24,70 +28,8 @@ pub enum Order {
     ReadLine(usize),
     // stvx, stvxl: D goes to the line at this place of the memory.
     WriteLine(usize),
-    // lvebx, lvehx, lvewx: D gets these bytes, at their place in the line at this place of the memory.
-    ReadElement {
-        at: usize,
-        place: usize,
-        bytes: usize,
-    },
-    // stvebx, stvehx, stvewx: these bytes of D go to their place in the line at this place of the memory.
-    WriteElement {
-        at: usize,
-        place: usize,
-        bytes: usize,
-    },
-}
-
-// Whether an order refuses the word.
-pub fn is_refusal(o: Order) -> bool
-    ensures { result ≡ refuses o }
-{
-    match o {
-        Order::Refuse(_) => true,
-        Order::SetGeneral(_) => false,
-        Order::Compute => false,
-        Order::ReadStatus => false,
-        Order::WriteStatus => false,
-        Order::PatternLeft(_) => false,
-        Order::PatternRight(_) => false,
-        Order::ReadLine(_) => false,
-        Order::WriteLine(_) => false,
-        Order::ReadElement {
-            at: _,
-            place: _,
-            bytes: _,
-        } => false,
-        Order::WriteElement {
-            at: _,
-            place: _,
-            bytes: _,
-        } => false,
-    }
-}
-
-// The answer of a refusal; Done of any other order.
-pub fn refusal(o: Order) -> Answer
-    ensures { result ≡ refusal_of o }
-{
-    match o {
-        Order::Refuse(a) => a,
-        Order::SetGeneral(_) => Answer::Done,
-        Order::Compute => Answer::Done,
-        Order::ReadStatus => Answer::Done,
-        Order::WriteStatus => Answer::Done,
-        Order::PatternLeft(_) => Answer::Done,
-        Order::PatternRight(_) => Answer::Done,
-        Order::ReadLine(_) => Answer::Done,
-        Order::WriteLine(_) => Answer::Done,
-        Order::ReadElement {
-            at: _,
-            place: _,
-            bytes: _,
-        } => Answer::Done,
-        Order::WriteElement {
-            at: _,
-            place: _,
-            bytes: _,
-        } => Answer::Done,
-    }
+    // lvebx, lvehx, lvewx: D gets these bytes, at their place in the line; its other bytes are zero.
+    ReadElement(Element),
+    // stvebx, stvehx, stvewx: the bytes of D at this place go there.
+    WriteElement(Element),
 }
