@@ -2,7 +2,7 @@
 -- An operation that computes no vector of them leaves the first operand as it is. Assumes nothing.
 use Rattle.std.specs.Prelude.{List, ℕ, ◌%◌}
 use Rattle.encodings.specs.declared.ops.Op.{Op}
-use Rattle.encodings.specs.declared.ops.Op.TheVariants.{Unknown, AddMod, AddCarry, AddSat, SubMod, SubCarry, SubSat, Max, Min, Average, Rotate, ShiftLeft, ShiftRight, ShiftAlgebraic, ShiftWholeLeft, ShiftWholeRight, ShiftBytesLeft, ShiftBytesRight, And, AndNot, Or, Xor, Nor, FromStatus, ToStatus, MulOdd, MulEven, SumQuarter, SumHalf, SumAll, MergeHigh, MergeLow, Splat, SplatImmediate, PackMod, PackSat, UnpackHigh, UnpackLow, CompareEqual, CompareGreater, MulHighAdd, MulHighRoundAdd, MulLowAdd, MulSum, MulSumMixed, MulSumSat, Select, Permute, ShiftPair, LoadShiftLeft, LoadShiftRight, LoadElement, LoadLine, StoreElement, StoreLine, AddImmediate}
+use Rattle.encodings.specs.declared.ops.Op.TheVariants.{AddMod, AddCarry, AddSat, SubMod, SubCarry, SubSat, Max, Min, Average, Rotate, ShiftLeft, ShiftRight, ShiftAlgebraic, ShiftWholeLeft, ShiftWholeRight, ShiftBytesLeft, ShiftBytesRight, And, AndNot, Or, Xor, Nor, FromStatus, ToStatus, MulOdd, MulEven, SumQuarter, SumHalf, SumAll, MergeHigh, MergeLow, Splat, SplatImmediate, PackMod, PackSat, UnpackHigh, UnpackLow, CompareEqual, CompareGreater, MulHighAdd, MulHighRoundAdd, MulLowAdd, MulSum, MulSumMixed, MulSumSat, Select, Permute, ShiftPair, LoadShiftLeft, LoadShiftRight, LoadElement, LoadLine, StoreElement, StoreLine, AddImmediate}
 use Rattle.lanes.specs.declared.Marked.{Marked}
 use Rattle.lanes.specs.declared.Op.TheVariants as lane
 use Rattle.lanes.specs.declared.Size.TheVariants.{Byte, Half, Word}
@@ -15,7 +15,6 @@ use Rattle.vector.specs.Copies.{copies}
 use Rattle.compute.specs.Families.{size_of, by_sign, unclipped, products, quarter_sums, product_sums, packs_modulo, packs_saturated, unpacks_high, unpacks_low}
 
 unfoldable pub computed : Op → List ℕ → List ℕ → List ℕ → ℕ → ℕ → Marked
-computed Unknown a b c i n = unclipped a
 computed (AddMod w) a b c i n = applied (size_of w) lane.AddModulo a b b
 computed AddCarry a b c i n = applied Word lane.AddCarry a b b
 computed (AddSat w s) a b c i n = applied (size_of w) (by_sign s lane.AddSatU lane.AddSatS) a b b

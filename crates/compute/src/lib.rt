@@ -135,7 +135,6 @@ pub fn compute(v: &mut [u8; 512], d: usize, a: usize, b: usize, c: usize, n: u8,
     ensures { Leaves (computed op (at v.old a) (at v.old b) (at v.old c) a n) d v.old v.new result }
 {
     match op {
-        Op::Unknown => copy(v, d, a),
         Op::AddMod(w) => match w {
             Width::Byte => vaddubm(v, d, a, b),
             Width::Half => vadduhm(v, d, a, b),

@@ -9,7 +9,7 @@ use native.Mathlib.Nat.{min-le_right}
 use lib.ListN.{length, drop, length-take, length-drop}
 use Rattle.decode.specs.declared.Decoded.{Decoded}
 use Rattle.encodings.specs.declared.ops.Op.{Op}
-use Rattle.encodings.specs.declared.ops.Op.TheVariants.{Unknown, AddMod, AddCarry, AddSat, SubMod, SubCarry, SubSat, Max, Min, Average, Rotate, ShiftLeft, ShiftRight, ShiftAlgebraic, ShiftWholeLeft, ShiftWholeRight, ShiftBytesLeft, ShiftBytesRight, And, AndNot, Or, Xor, Nor, FromStatus, ToStatus, MulOdd, MulEven, SumQuarter, SumHalf, SumAll, MergeHigh, MergeLow, Splat, SplatImmediate, PackMod, PackSat, UnpackHigh, UnpackLow, CompareEqual, CompareGreater, MulHighAdd, MulHighRoundAdd, MulLowAdd, MulSum, MulSumMixed, MulSumSat, Select, Permute, ShiftPair, LoadShiftLeft, LoadShiftRight, LoadElement, LoadLine, StoreElement, StoreLine, AddImmediate}
+use Rattle.encodings.specs.declared.ops.Op.TheVariants.{AddMod, AddCarry, AddSat, SubMod, SubCarry, SubSat, Max, Min, Average, Rotate, ShiftLeft, ShiftRight, ShiftAlgebraic, ShiftWholeLeft, ShiftWholeRight, ShiftBytesLeft, ShiftBytesRight, And, AndNot, Or, Xor, Nor, FromStatus, ToStatus, MulOdd, MulEven, SumQuarter, SumHalf, SumAll, MergeHigh, MergeLow, Splat, SplatImmediate, PackMod, PackSat, UnpackHigh, UnpackLow, CompareEqual, CompareGreater, MulHighAdd, MulHighRoundAdd, MulLowAdd, MulSum, MulSumMixed, MulSumSat, Select, Permute, ShiftPair, LoadShiftLeft, LoadShiftRight, LoadElement, LoadLine, StoreElement, StoreLine, AddImmediate}
 use Rattle.lanes.specs.Words.{joined, bytes_of}
 use Rattle.lines.specs.Lines.{part, sixteen, put}
 use Rattle.lines.proofs.Parts.{put_long, sixteen_same}
@@ -22,7 +22,6 @@ use Rattle.effects.specs.Effects.{register, computed_of, flags_after}
 module _ (a b c d : List ℕ) (i n : ℕ) where
   compared : (op : Op) → compares op ≡ true → (computed op a b d i n ≡ computed op a b c i n) × (length (computed op a b c i n).bytes ≡ 16)
   unfolding computed joined bytes_of
-  compared Unknown e = absurd (false≢true e)
   compared (AddMod w) e = absurd (false≢true e)
   compared AddCarry e = absurd (false≢true e)
   compared (AddSat w s) e = absurd (false≢true e)
@@ -92,24 +91,24 @@ reaches l o e =
     let d = length-drop o l in
     omega arith
 
-module _ (w : Decoded) (v after : List ℕ) (flags r : Flags) (marks : ℕ) where
+module _ (op : Op) (w : Decoded) (v after : List ℕ) (flags r : Flags) (marks : ℕ) where
   -- an instruction that sets CR6: it is a compare
-  pub left_compared : (x : List ℕ) → length x ≡ 16 → x ≡ register after w.d → (w.rc && compares w.op) ≡ true
-      → Leaves (computed w.op (register v w.a) (register v w.b) (register v w.b) w.a w.count) w.d v after marks
+  pub left_compared : (x : List ℕ) → length x ≡ 16 → x ≡ register after w.d → (w.rc && compares op) ≡ true
+      → Leaves (computed op (register v w.a) (register v w.b) (register v w.b) w.a w.count) w.d v after marks
       → r ≡ recorded_of (marked_of flags marks) true x
-      → (after ≡ put v (16 * w.d) (computed_of w v).bytes) × (r ≡ flags_after w (computed_of w v) flags)
+      → (after ≡ put v (16 * w.d) (computed_of op w v).bytes) × (r ≡ flags_after op w (computed_of op w v) flags)
   unfolding computed_of flags_after
   left_compared x long i e l h =
-      let k = compared (register v w.a) (register v w.b) (register v w.c) (register v w.b) w.a w.count w.op (second w.rc (compares w.op) e) in
+      let k = compared (register v w.a) (register v w.b) (register v w.c) (register v w.b) w.a w.count op (second w.rc (compares op) e) in
       let n = rw k.0 at l in
       let b : 16 * w.d + 16 ≤ length after = reaches after (16 * w.d) (rw i at long) in
       let c : length after ≡ length v = rw n.vectors (put_long v (16 * w.d) _) in
       (n.vectors, rw (h, i, n.vectors, sixteen_same v (16 * w.d) _ k.1 (omega arith), n.clipped, e))
 
   -- one that does not
-  pub left_computed : (w.rc && compares w.op) ≡ false
-      → Leaves (computed w.op (register v w.a) (register v w.b) (register v w.c) w.a w.count) w.d v after marks
+  pub left_computed : (w.rc && compares op) ≡ false
+      → Leaves (computed op (register v w.a) (register v w.b) (register v w.c) w.a w.count) w.d v after marks
       → r ≡ marked_of flags marks
-      → (after ≡ put v (16 * w.d) (computed_of w v).bytes) × (r ≡ flags_after w (computed_of w v) flags)
+      → (after ≡ put v (16 * w.d) (computed_of op w v).bytes) × (r ≡ flags_after op w (computed_of op w v) flags)
   unfolding computed_of flags_after recorded_of
   left_computed e l h = (l.vectors, rw (h, l.clipped, e))

@@ -9,17 +9,17 @@ ghost use Rattle.effects.specs.Effects.{computed_of, flags_after, held_of, effec
 use compute::compute;
 use control::orders::Order;
 use decode::Decoded;
+use encodings::ops::Op;
 use flags::{Flags, from_status, marked, recorded, records, status};
 use lines::{load, load_element, set_vector, store, store_element, vector};
 use moves::{lvsl, lvsr};
 
 // A vector instruction. A compare that sets CR6 is a call of its own: a compare has no register C, and is given B again. Were the two calls the same, the
 // compiler would make one of them, and take all instructions into the loop of the run.
-fn computed(w: Decoded, v: &mut [u8; 512], flags: Flags) -> Flags
+fn computed(op: Op, w: Decoded, v: &mut [u8; 512], flags: Flags) -> Flags
     requires { InFields w }
-    ensures { (v.new ≡ put v.old (16 * w.d) (computed_of w v.old).bytes) × (result ≡ flags_after w (computed_of w v.old) flags) }
+    ensures { (v.new ≡ put v.old (16 * w.d) (computed_of op w v.old).bytes) × (result ≡ flags_after op w (computed_of op w v.old) flags) }
 {
-    let op = w.op;
     if records(op, w.rc) {
         let marks = compute(v, w.d, w.a, w.b, w.b, w.count as u8, op);
         return recorded(marked(flags, marks), vector(v, w.d));
@@ -34,9 +34,8 @@ pub fn effect(o: Order, w: Decoded, v: &mut [u8; 512], flags: Flags, mem: &mut [
     ensures { held_of v.new result mem.new ≡ effect_of o w (held_of v.old flags mem.old) }
 {
     match o {
-        Order::Refuse(_) => flags,
         Order::SetGeneral(_) => flags,
-        Order::Compute => computed(w, v, flags),
+        Order::Compute(op) => computed(op, w, v, flags),
         Order::ReadStatus => {
             set_vector(v, w.d, status(flags));
             flags
@@ -60,14 +59,14 @@ pub fn effect(o: Order, w: Decoded, v: &mut [u8; 512], flags: Flags, mem: &mut [
             store(mem, at, x);
             flags
         }
-        Order::ReadElement { at, place, bytes } => {
-            let x = load_element(mem, at, place, bytes);
+        Order::ReadElement(e) => {
+            let x = load_element(mem, e.at, e.place, e.bytes);
             set_vector(v, w.d, x);
             flags
         }
-        Order::WriteElement { at, place, bytes } => {
+        Order::WriteElement(e) => {
             let x = vector(v, w.d);
-            store_element(mem, at, place, bytes, x);
+            store_element(mem, e.at, e.place, e.bytes, x);
             flags
         }
     }

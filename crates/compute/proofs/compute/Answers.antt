@@ -183,9 +183,6 @@ vxor-requires c = let p = c.requires in (p.0, p.1, p.2)
 pub vnor-requires : goal.vnor-requires
 vnor-requires c = let p = c.requires in (p.0, p.1, p.2)
 
-pub copy-requires-in-FromStatus : goal.copy-requires-in-FromStatus
-copy-requires-in-FromStatus c = let p = c.requires in (p.0, p.1)
-
 pub copy-requires-in-ToStatus : goal.copy-requires-in-ToStatus
 copy-requires-in-ToStatus c = let p = c.requires in (p.0, p.1)
 
@@ -419,10 +416,6 @@ copy-requires-in-StoreLine c = let p = c.requires in (p.0, p.1)
 
 pub copy-requires-in-AddImmediate : goal.copy-requires-in-AddImmediate
 copy-requires-in-AddImmediate c = let p = c.requires in (p.0, p.1)
-
-pub returns-in-Unknown : goal.returns-in-Unknown
-unfolding computed
-returns-in-Unknown c = rw c.in-Unknown.is c.copy.ensures
 
 pub returns-in-Byte : goal.returns-in-Byte
 unfolding computed
@@ -662,7 +655,7 @@ returns-in-Nor c = rw c.in-Nor.is c.vnor.ensures
 
 pub returns-in-FromStatus : goal.returns-in-FromStatus
 unfolding computed
-returns-in-FromStatus c = rw c.in-FromStatus.is c.copy-in-FromStatus.ensures
+returns-in-FromStatus c = rw c.in-FromStatus.is c.copy.ensures
 
 pub returns-in-ToStatus : goal.returns-in-ToStatus
 unfolding computed

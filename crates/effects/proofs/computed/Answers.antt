@@ -10,11 +10,11 @@ pub returns-then-records : goal.returns-then-records
 returns-then-records c = let s = c in
     let x = c.vector in
     let long : length x.result ≡ 16 = search rules in
-    left_compared s.args.w s.args.v.now _ s.args.flags _ _ x.result long x.ensures
+    left_compared s.args.op s.args.w s.args.v.now _ s.args.flags _ _ x.result long x.ensures
     (sym c.records.ensures ∙ c.if-records.true)
     c.compute-marks.ensures
     (rw (← c.marked.ensures) c.recorded.ensures)
 
 pub returns : goal.returns
 returns c = let s = c in
-    left_computed s.args.w s.args.v.now _ s.args.flags _ _ (sym c.records.ensures ∙ c.if-records.false) c.compute-marks-2.ensures c.marked-2.ensures
+    left_computed s.args.op s.args.w s.args.v.now _ s.args.flags _ _ (sym c.records.ensures ∙ c.if-records.false) c.compute-marks-2.ensures c.marked-2.ensures
