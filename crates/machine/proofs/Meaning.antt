@@ -2,7 +2,7 @@
 -- Assumes nothing.
 use Prim.Native.Nat.{ℕ, zero, suc, ◌+◌, ◌-◌, ◌<◌}
 use mathlib.Core.Path.{◌≡◌, refl, sym, ap, ap₂, ◌∙◌}
-use mathlib.Core.Bool.{true, false}
+use Rattle.std.specs.Prelude.{Ok, Err}
 use mathlib.Core.List.{List}
 use native.Mathlib.Omega.{arith}
 use lib.ListN.{length}
@@ -11,7 +11,7 @@ use Rattle.decode.specs.declared.Decoded.{Decoded}
 use Rattle.control.specs.declared.answers.Answer.{Answer}
 use Rattle.control.specs.declared.answers.Answer.TheVariants.{Done, Spent}
 use Rattle.control.specs.declared.orders.Order.{Order}
-use Rattle.control.specs.Orders.{refuses, refusal_of, general_of}
+use Rattle.control.specs.Orders.{general_of}
 use Rattle.flags.specs.declared.Flags.{Flags}
 use Rattle.effects.specs.Effects.{Held, held_of, effect_of}
 use Rattle.machine.specs.declared.walk.Walked.{Walked}
@@ -45,28 +45,27 @@ module _ (code : List ℕ) (base : ℕ) where
   spent (suc n) s z e = absurd (omega arith)
 
   -- a run at a word that is refused
-  pub refused : (n : ℕ) (s : State) (o : Order) → 0 < n → (s.place ≡ length code → ⊥) → o ≡ order_at code base s → refuses o ≡ true
-      → runs code base n s ≡ stops (refusal_of o) s
+  pub refused : (n : ℕ) (s : State) (a : Answer) → 0 < n → (s.place ≡ length code → ⊥) → Err a ≡ order_at code base s → runs code base n s ≡ stops a s
   unfolding runs
-  refused zero s o p e h r = absurd (omega arith)
-  refused (suc n) s o p e h r = simp (ne_eqb _ _ e, ← h, r)
+  refused zero s a p e h = absurd (omega arith)
+  refused (suc n) s a p e h = simp (ne_eqb _ _ e, ← h)
 
   -- a run at a word that is completed
-  pub completed : (n : ℕ) (s : State) (o : Order) → 0 < n → (s.place ≡ length code → ⊥) → o ≡ order_at code base s → refuses o ≡ false
+  pub completed : (n : ℕ) (s : State) (o : Order) → 0 < n → (s.place ≡ length code → ⊥) → Ok o ≡ order_at code base s
       → runs code base n s ≡ runs code base (n - 1) (next o (word_at code s) s)
   unfolding runs
-  completed zero s o p e h r = absurd (omega arith)
-  completed (suc n) s o p e h r =
+  completed zero s o p e h = absurd (omega arith)
+  completed (suc n) s o p e h =
       let d : suc n - 1 ≡ n = omega arith in
-      simp (ne_eqb _ _ e, ← h, r, d)
+      simp (ne_eqb _ _ e, ← h, d)
 
   -- the same, of the parts that the loop holds
   pub more : (n count place : ℕ) (v g : List ℕ) (f : Flags) (mem : List ℕ) (o : Order) (w : Decoded) (v' g' : List ℕ) (f' : Flags) (mem' : List ℕ)
-      → 0 < n → (place ≡ length code → ⊥) → w ≡ word_at code (state_of count place v g f mem) → o ≡ order_at code base (state_of count place v g f mem)
-      → refuses o ≡ false → g' ≡ general_of o w.d g → held_of v' f' mem' ≡ effect_of o w (held_of v f mem)
+      → 0 < n → (place ≡ length code → ⊥) → w ≡ word_at code (state_of count place v g f mem) → Ok o ≡ order_at code base (state_of count place v g f mem)
+      → g' ≡ general_of o w.d g → held_of v' f' mem' ≡ effect_of o w (held_of v f mem)
       → runs code base n (state_of count place v g f mem) ≡ runs code base (n - 1) (state_of (count + 1) (place + 1) v' g' f' mem')
-  more n count place v g f mem o w v' g' f' mem' p e k h r i j =
+  more n count place v g f mem o w v' g' f' mem' p e k h i j =
       let s = state_of count place v g f mem in
-      completed n s o p e h r
+      completed n s o p e h
       ∙ ap (λ (x : Decoded). runs code base (n - 1) (next o x s)) (sym k)
       ∙ ap₂ (λ (x : List ℕ) (y : Held). runs code base (n - 1) (state_of (count + 1) (place + 1) y.v x y.flags y.mem)) (sym i) (sym j)

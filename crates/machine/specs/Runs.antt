@@ -1,5 +1,5 @@
 -- A run: document 01, "Numbers the run gives back". Control and data for each word, as far as the allowance goes. Assumes nothing.
-use Rattle.std.specs.Prelude.{ℕ, zero, suc, ◌+◌, ◌≡◌, List, length, get_or, eqb, leb}
+use Rattle.std.specs.Prelude.{ℕ, zero, suc, ◌+◌, ◌≡◌, List, length, get_or, eqb, leb, Result, Ok, Err}
 use Rattle.encodings.specs.Bits.{pick}
 use Rattle.decode.specs.declared.Decoded.{Decoded}
 use Rattle.decode.specs.Decode.{decode_of}
@@ -8,7 +8,7 @@ use Rattle.control.specs.declared.answers.Answer.TheVariants.{Done, Spent, Mispl
 use Rattle.control.specs.declared.orders.Order.{Order}
 use Rattle.control.specs.Answers.{number_of}
 use Rattle.control.specs.Addresses.{well_placed}
-use Rattle.control.specs.Orders.{order_of, refuses, refusal_of, general_of}
+use Rattle.control.specs.Orders.{order_of, general_of}
 use Rattle.flags.specs.declared.Flags.{Flags}
 use Rattle.effects.specs.Effects.{Held, held_of, effect_of}
 use Rattle.machine.specs.declared.walk.Report.{Report}
@@ -47,7 +47,7 @@ stops a s = record { number = number_of a; count = s.count; place = s.place; m =
 abbrev pub word_at : List ℕ → State → Decoded
 word_at code s = decode_of (get_or code s.place 0)
 
-unfoldable pub order_at : List ℕ → ℕ → State → Order
+unfoldable pub order_at : List ℕ → ℕ → State → Result Order Answer
 order_at code base s = order_of (word_at code s) s.m.g base (length s.mem)
 
 -- a word completed: control sets the general registers, data the rest; the count and the place move by one
@@ -57,13 +57,17 @@ after s g h = record { count = s.count + 1; place = s.place + 1; m = machine_of 
 abbrev pub next : Order → Decoded → State → State
 next o w s = after s (general_of o w.d s.m.g) (effect_of o w (held_of s.m.v (flags_in s.m) s.mem))
 
+-- a refused word ends the run with its answer, and after any other it goes on
+abbrev pub went : Result Order Answer → State → (Order → Out) → Out
+went (Err a) s on = stops a s
+went (Ok o) s on = on o
+
 -- recursion on the allowance; before each word 0, then 1, then 5, 6, 7
 unfoldable pub runs : List ℕ → ℕ → ℕ → State → Out
 runs code base zero s = pick (eqb s.place (length code)) (stops Done s) (stops Spent s)
 runs code base (suc n) s =
     pick (eqb s.place (length code)) (stops Done s)
-    (pick (refuses (order_at code base s)) (stops (refusal_of (order_at code base s)) s)
-    (runs code base n (next (order_at code base s) (word_at code s) s)))
+    (went (order_at code base s) s (λ o. runs code base n (next o (word_at code s) s)))
 
 -- 2, 3, 4 once, and then the words
 unfoldable pub run_of : List ℕ → List ℕ → ℕ → ℕ → ℕ → Machine → Out

@@ -6,7 +6,7 @@ mod walk;
 ghost use Rattle.std.specs.Prelude.{◌≡◌};
 ghost use Rattle.machine.specs.Runs.{run_of, Gives};
 
-pub use control::answers::{Answer, number};
+pub use control::answers::Answer;
 use control::well_placed;
 use flags::Flags;
 pub use walk::Report;
@@ -36,50 +36,44 @@ impl Machine {
         ensures { (result.report.answer ≡ answer) × (result.report.count ≡ 0) × (result.report.place ≡ place) × (result.m ≡ self) }
     {
         let report = Report {
-            answer: answer,
+            answer,
             count: 0,
-            place: place,
+            place,
         };
-        Ran {
-            report: report,
-            m: self,
-        }
+        Ran { report, m: self }
     }
 
     // The words from a place on, as far as the allowance goes, over a memory whose first byte stands at base.
     pub fn run(self, code: &[u32], mem: &mut [u8], base: u32, place: u32, allowance: u32) -> Ran
         ensures { Gives (run_of code.now mem.old base place allowance self) result.report result.m mem.new }
     {
-        if well_placed(base, mem.len()) {
-            if code.len() <= 16384 {
-                if (place as usize) <= code.len() {
-                    let mut v = self.v;
-                    let mut g = self.g;
-                    let flags = Flags {
-                        nj: self.nj,
-                        sat: self.sat,
-                        cr6: self.cr6,
-                    };
-                    let r = steps(&mut v, &mut g, flags, code, mem, base, place, allowance);
-                    let report = r.report;
-                    let f = r.flags;
-                    let m = Machine {
-                        v: v,
-                        g: g,
-                        nj: f.nj,
-                        sat: f.sat,
-                        cr6: f.cr6,
-                    };
-                    return Ran {
-                        report: report,
-                        m: m,
-                    };
-                }
-                return self.kept(Answer::BadStart, place);
-            }
+        if !well_placed(base, mem.len()) {
+            return self.kept(Answer::Misplaced, place);
+        }
+        if 16384 < code.len() {
             return self.kept(Answer::LongCode, place);
         }
-        self.kept(Answer::Misplaced, place)
+        if code.len() < place as usize {
+            return self.kept(Answer::BadStart, place);
+        }
+        let mut v = self.v;
+        let mut g = self.g;
+        let flags = Flags {
+            nj: self.nj,
+            sat: self.sat,
+            cr6: self.cr6,
+        };
+        let r = steps(&mut v, &mut g, flags, code, mem, base, place, allowance);
+        let report = r.report;
+        let f = r.flags;
+        let m = Machine {
+            v,
+            g,
+            nj: f.nj,
+            sat: f.sat,
+            cr6: f.cr6,
+        };
+        Ran { report, m }
     }
 
     // A step is a run with allowance 1.

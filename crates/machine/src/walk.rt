@@ -5,7 +5,6 @@ ghost use Rattle.machine.specs.Runs.{machine_of, walked_of, starts, runs, Gives}
 
 use control::answers::Answer;
 use control::control;
-use control::orders::{is_refusal, refusal};
 use decode::decode;
 use effects::effect;
 use flags::Flags;
@@ -28,14 +27,11 @@ fn stopped(answer: Answer, count: u32, place: u32, flags: Flags) -> Walked
     ensures { result ≡ walked_of answer count place flags }
 {
     let report = Report {
-        answer: answer,
-        count: count,
-        place: place,
+        answer,
+        count,
+        place,
     };
-    Walked {
-        report: report,
-        flags: flags,
-    }
+    Walked { report, flags }
 }
 
 pub fn steps(
@@ -52,29 +48,22 @@ pub fn steps(
     ensures { Gives (runs code.now base allowance (starts place (machine_of v.old g.old flags) mem.old)) result.report (machine_of v.new g.new result.flags) mem.new }
 {
     let mut f = flags;
-    let mut at = place;
-    let mut left = allowance;
-    let mut count: u32 = 0;
     let n = code.len();
-    while 0 < left {
+    for count in 0..allowance {
+        let at = place + count;
         let k = at as usize;
         if k == n {
             return stopped(Answer::Done, count, at, f);
         }
         let w = decode(code[k]);
-        let order = control(w, g, base, mem.len());
-        if is_refusal(order) {
-            return stopped(refusal(order), count, at, f);
+        match control(w, g, base, mem.len()) {
+            Err(answer) => return stopped(answer, count, at, f),
+            Ok(order) => f = effect(order, w, v, f, mem),
         }
-        let next = effect(order, w, v, f, mem);
-        f = next;
-        at += 1;
-        count += 1;
-        left -= 1;
     }
-    let k = at as usize;
-    if k == n {
-        return stopped(Answer::Done, count, at, f);
+    let at = place + allowance;
+    if at as usize == n {
+        return stopped(Answer::Done, allowance, at, f);
     }
-    stopped(Answer::Spent, count, at, f)
+    stopped(Answer::Spent, allowance, at, f)
 }
