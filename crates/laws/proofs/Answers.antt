@@ -11,24 +11,23 @@ use borrow.Author.Tests.{ltb-false, leb-true, leb-false, eqb-true, le-leb, lt-le
 use Rattle.encodings.specs.Bits.{pick}
 use Rattle.decode.specs.declared.Decoded.{Decoded}
 use Rattle.encodings.specs.declared.ops.Op.{Op}
-use Rattle.encodings.specs.declared.ops.Op.TheVariants.{Unknown}
 use Rattle.control.specs.declared.answers.Answer.{Answer}
 use Rattle.control.specs.declared.answers.Answer.TheVariants.{Done, Spent, Misplaced, LongCode, BadStart, NoInstruction, Reserved, Outside}
-use Rattle.control.specs.declared.addresses.Item.{Item}
-use Rattle.control.specs.declared.addresses.Item.TheVariants.{At, Missing}
+use Rattle.std.specs.Prelude.{Option, Some, None, Result, Ok, Err}
+use Rattle.std.specs.Option.{option_map_or}
 use Rattle.control.specs.declared.kinds.Kind.{Kind}
-use Rattle.control.specs.declared.kinds.Kind.TheVariants.{Absent, Vector, GetStatus, PutStatus, LeftPattern, RightPattern, GetElement, GetLine, PutElement, PutLine, AddScalar}
+use Rattle.control.specs.declared.kinds.Kind.TheVariants.{Vector, GetStatus, PutStatus, LeftPattern, RightPattern, GetElement, GetLine, PutElement, PutLine, AddScalar}
 use Rattle.control.specs.declared.orders.Order.{Order}
-use Rattle.control.specs.declared.orders.Order.TheVariants.{Refuse, ReadLine, WriteLine}
+use Rattle.control.specs.declared.orders.Order.TheVariants.{ReadLine, WriteLine, ReadElement, WriteElement}
 use Rattle.control.specs.Addresses.{address_of, sum_of, bytes_of, aligned, item_of, well_placed}
 use Rattle.control.specs.Answers.{number_of}
-use Rattle.control.specs.Kinds.{kind_of, is_absent}
-use Rattle.control.specs.Orders.{reached, read_element, write_element, order_in, order_of, refuses, refusal_of}
+use Rattle.control.specs.Kinds.{kind_of}
+use Rattle.control.specs.Orders.{reached, element, order_in, order_of}
 use Rattle.control.proofs.Cases.{five, six, carried, below, above}
 use Rattle.machine.specs.declared.Machine.{Machine}
 use Rattle.machine.specs.Runs.{State, Out, starts, stops, runs, run_of}
 use Rattle.laws.specs.Answers.{Placed, Beyond, Misses, Refused, Comes, Begins, Runs, Case}
-use Rattle.laws.proofs.Told.{absent_kind, not_set}
+use Rattle.laws.proofs.Told.{not_set}
 use Rattle.laws.proofs.Outcome.{same_answer}
 use Rattle.laws.proofs.Completed.{ends, only}
 
@@ -50,86 +49,87 @@ unfolding well_placed
 well_placed_lem base len p =
     simp (eq-eqb _ _ p.base_lines, eq-eqb _ _ p.length_lines, le-leb _ _ p.short, le-leb _ _ p.below)
 
+-- whether a word is refused, and its answer
+abbrev refuses : Result Order Answer → Bool
+refuses (Ok o) = false
+refuses (Err a) = true
+
+abbrev answer_in : Result Order Answer → Answer
+answer_in (Ok o) = Done
+answer_in (Err a) = a
+
 -- a word, with the general registers g, over a memory of len bytes at base
 module _ (w : Decoded) (g : List ℕ) (base len : ℕ) where
   abbrev x : ℕ
   x = address_of g w.a w.b
 
-  -- an order at the place of an item refuses exactly where the item is outside the memory
-  missed : (e : ℕ) (f : ℕ → Order) → ((k : ℕ) → refuses (f k) ≡ false) → (a : Answer) → reached (item_of e base len) f ≡ Refuse a → Beyond e base len × (Outside ≡ a)
+  -- an order at the place of an item is refused exactly where the item is outside the memory
+  missed : (e : ℕ) (f : ℕ → Order) (a : Answer) → reached (item_of e base len) f ≡ Err a → Beyond e base len × (Outside ≡ a)
   unfolding item_of
-  missed e f n a = cases (leb base e) refl (ltb e (base + len)) refl
+  missed e f a = cases (leb base e) refl (ltb e (base + len)) refl
     where
       cases : (b : Bool) → leb base e ≡ b → (c : Bool) → ltb e (base + len) ≡ c
-          → reached (pick b (pick c (At (e - base)) Missing) Missing) f ≡ Refuse a → Beyond e base len × (Outside ≡ a)
-      cases true p true q h = absurd (true≢false (sym (ap refuses h) ∙ n (e - base)))
-      cases true p false q h = (inr (ltb-false _ _ q), ap refusal_of h)
-      cases false p c q h = (inl (leb-false _ _ p), ap refusal_of h)
+          → reached (pick b (pick c (Some (e - base)) None) None) f ≡ Err a → Beyond e base len × (Outside ≡ a)
+      cases true p true q h = absurd (false≢true (ap refuses h))
+      cases true p false q h = (inr (ltb-false _ _ q), ap answer_in h)
+      cases false p c q h = (inl (leb-false _ _ p), ap answer_in h)
 
-  missing : (e : ℕ) (f : ℕ → Order) → Beyond e base len → reached (item_of e base len) f ≡ Refuse Outside
-  missing e f (inl h) = ap (λ (i : Item). reached i f) (below e base len h)
-  missing e f (inr h) = ap (λ (i : Item). reached i f) (behind (leb base e) refl)
+  missing : (e : ℕ) (f : ℕ → Order) → Beyond e base len → reached (item_of e base len) f ≡ Err Outside
+  missing e f (inl h) = ap (λ (i : Option ℕ). reached i f) (below e base len h)
+  missing e f (inr h) = ap (λ (i : Option ℕ). reached i f) (behind (leb base e) refl)
     where
-      behind : (b : Bool) → leb base e ≡ b → item_of e base len ≡ Missing
+      behind : (b : Bool) → leb base e ≡ b → item_of e base len ≡ None
       behind true p = above e base len (leb-true _ _ p) h
       behind false p = below e base len (leb-false _ _ p)
 
-  kind_missed : (k : Kind) (s : ℕ) → is_absent k ≡ false → (a : Answer) → order_in k x s base len ≡ Refuse a → Misses k x base len × (Outside ≡ a)
-  kind_missed Absent s n a h = absurd (true≢false n)
-  kind_missed Vector s n a h = absurd (false≢true (ap refuses h))
-  kind_missed GetStatus s n a h = absurd (false≢true (ap refuses h))
-  kind_missed PutStatus s n a h = absurd (false≢true (ap refuses h))
-  kind_missed LeftPattern s n a h = absurd (false≢true (ap refuses h))
-  kind_missed RightPattern s n a h = absurd (false≢true (ap refuses h))
-  kind_missed (GetElement z) s n a h = missed (aligned (bytes_of z) x) (read_element (aligned (bytes_of z) x) (bytes_of z)) (λ k. refl) a h
-  kind_missed GetLine s n a h = missed (aligned 16 x) ReadLine (λ k. refl) a h
-  kind_missed (PutElement z) s n a h = missed (aligned (bytes_of z) x) (write_element (aligned (bytes_of z) x) (bytes_of z)) (λ k. refl) a h
-  kind_missed PutLine s n a h = missed (aligned 16 x) WriteLine (λ k. refl) a h
-  kind_missed AddScalar s n a h = absurd (false≢true (ap refuses h))
+  kind_missed : (k : Kind) (o : Op) (s : ℕ) (a : Answer) → order_in k o x s base len ≡ Err a → Misses k x base len × (Outside ≡ a)
+  kind_missed Vector o s a h = absurd (false≢true (ap refuses h))
+  kind_missed GetStatus o s a h = absurd (false≢true (ap refuses h))
+  kind_missed PutStatus o s a h = absurd (false≢true (ap refuses h))
+  kind_missed LeftPattern o s a h = absurd (false≢true (ap refuses h))
+  kind_missed RightPattern o s a h = absurd (false≢true (ap refuses h))
+  kind_missed (GetElement z) o s a h = missed (aligned (bytes_of z) x) (λ k. ReadElement (element (aligned (bytes_of z) x) (bytes_of z) k)) a h
+  kind_missed GetLine o s a h = missed (aligned 16 x) ReadLine a h
+  kind_missed (PutElement z) o s a h = missed (aligned (bytes_of z) x) (λ k. WriteElement (element (aligned (bytes_of z) x) (bytes_of z) k)) a h
+  kind_missed PutLine o s a h = missed (aligned 16 x) WriteLine a h
+  kind_missed AddScalar o s a h = absurd (false≢true (ap refuses h))
 
-  kind_missing : (k : Kind) (s : ℕ) → Misses k x base len → order_in k x s base len ≡ Refuse Outside
-  kind_missing Absent s h = absurd h
-  kind_missing Vector s h = absurd h
-  kind_missing GetStatus s h = absurd h
-  kind_missing PutStatus s h = absurd h
-  kind_missing LeftPattern s h = absurd h
-  kind_missing RightPattern s h = absurd h
-  kind_missing (GetElement z) s h = missing (aligned (bytes_of z) x) (read_element (aligned (bytes_of z) x) (bytes_of z)) h
-  kind_missing GetLine s h = missing (aligned 16 x) ReadLine h
-  kind_missing (PutElement z) s h = missing (aligned (bytes_of z) x) (write_element (aligned (bytes_of z) x) (bytes_of z)) h
-  kind_missing PutLine s h = missing (aligned 16 x) WriteLine h
-  kind_missing AddScalar s h = absurd h
+  kind_missing : (k : Kind) (o : Op) (s : ℕ) → Misses k x base len → order_in k o x s base len ≡ Err Outside
+  kind_missing Vector o s h = absurd h
+  kind_missing GetStatus o s h = absurd h
+  kind_missing PutStatus o s h = absurd h
+  kind_missing LeftPattern o s h = absurd h
+  kind_missing RightPattern o s h = absurd h
+  kind_missing (GetElement z) o s h = missing (aligned (bytes_of z) x) (λ k. ReadElement (element (aligned (bytes_of z) x) (bytes_of z) k)) h
+  kind_missing GetLine o s h = missing (aligned 16 x) ReadLine h
+  kind_missing (PutElement z) o s h = missing (aligned (bytes_of z) x) (λ k. WriteElement (element (aligned (bytes_of z) x) (bytes_of z) k)) h
+  kind_missing PutLine o s h = missing (aligned 16 x) WriteLine h
+  kind_missing AddScalar o s h = absurd h
 
-  present : is_absent (kind_of w.op) ≡ false → w.op ≡ Unknown → ⊥
-  present n e = true≢false (sym (ap (λ (o : Op). is_absent (kind_of o)) e) ∙ n)
-
-  carries : (w.op ≡ Unknown → ⊥) → is_absent (kind_of w.op) ≡ false
-  carries n = not_set (is_absent (kind_of w.op)) (λ h. n (absent_kind w.op h))
-
-  refused : (a : Answer) → order_of w g base len ≡ Refuse a → Refused a w g base len
+  refused : (a : Answer) → order_of w g base len ≡ Err a → Refused a w g base len
   unfolding order_of
-  refused a = cases (is_absent (kind_of w.op)) refl w.stray refl
+  refused a = cases w.op refl w.stray refl
     where
-      cases : (b : Bool) → is_absent (kind_of w.op) ≡ b → (c : Bool) → w.stray ≡ c
-          → pick b (Refuse NoInstruction) (pick c (Refuse Reserved) (order_in (kind_of w.op) x (sum_of g w.a w.imm) base len)) ≡ Refuse a
+      cases : (p : Option Op) → w.op ≡ p → (c : Bool) → w.stray ≡ c
+          → option_map_or (λ (o : Op). pick c (Err Reserved) (order_in (kind_of o) o x (sum_of g w.a w.imm) base len)) p (Err NoInstruction) ≡ Err a
           → Refused a w g base len
-      cases true p c q h = subst (λ z. Refused z w g base len) (ap refusal_of h) (absent_kind w.op p)
-      cases false p true q h = subst (λ z. Refused z w g base len) (ap refusal_of h) (present p, q)
-      cases false p false q h =
-          let m = kind_missed (kind_of w.op) (sum_of g w.a w.imm) p a h in
-          subst (λ z. Refused z w g base len) m.1 (present p, q, m.0)
+      cases None p c q h = subst (λ z. Refused z w g base len) (ap answer_in h) p
+      cases (Some o) p true q h = subst (λ z. Refused z w g base len) (ap answer_in h) (o, p, q)
+      cases (Some o) p false q h =
+          let m = kind_missed (kind_of o) o (sum_of g w.a w.imm) a h in
+          subst (λ z. Refused z w g base len) m.1 (o, p, q, m.0)
 
-  refusing : (a : Answer) → Refused a w g base len → order_of w g base len ≡ Refuse a
+  refusing : (a : Answer) → Refused a w g base len → order_of w g base len ≡ Err a
   refusing Done h = absurd h
   refusing Spent h = absurd h
   refusing Misplaced h = absurd h
   refusing LongCode h = absurd h
   refusing BadStart h = absurd h
-  refusing NoInstruction h = five w g base len (ap (λ (o : Op). is_absent (kind_of o)) h)
-  refusing Reserved h = six w g base len (carries h.0) h.1
-  refusing Outside h = carried w g base len (carries h.0) h.1 ∙ kind_missing (kind_of w.op) (sum_of g w.a w.imm) h.2
+  refusing NoInstruction h = five w g base len h
+  refusing Reserved h = six w g base len h.0 h.1 h.2
+  refusing Outside h = carried w g base len h.0 h.1 h.2 ∙ kind_missing (kind_of h.0) h.0 (sum_of g w.a w.imm) h.3
 
-  pub refused_exactly : (a : Answer) → order_of w g base len ≡ Refuse a ↔ Refused a w g base len
+  pub refused_exactly : (a : Answer) → order_of w g base len ≡ Err a ↔ Refused a w g base len
   refused_exactly a = (refused a, refusing a)
 
 module _ (code mem : List ℕ) (base place n : ℕ) (m : Machine) where

@@ -13,9 +13,10 @@ use Rattle.encodings.specs.Bits.{pick}
 use Rattle.control.specs.declared.answers.Answer.{Answer}
 use Rattle.control.specs.declared.answers.Answer.TheVariants.{Done, Spent, Misplaced, LongCode, BadStart}
 use Rattle.control.specs.Addresses.{well_placed}
-use Rattle.control.specs.Orders.{refuses, refusal_of}
+use Rattle.control.specs.declared.orders.Order.{Order}
+use Rattle.std.specs.Prelude.{Result, Ok, Err}
 use Rattle.machine.specs.declared.Machine.{Machine}
-use Rattle.machine.specs.Runs.{State, Out, starts, stops, order_at, runs, run_of}
+use Rattle.machine.specs.Runs.{State, Out, starts, stops, order_at, went, runs, run_of}
 use Rattle.laws.specs.Steps.{next_at, again, later, later_out}
 use Rattle.laws.proofs.Kept.{stays}
 use Rattle.laws.proofs.Refusals.{late}
@@ -28,21 +29,19 @@ module _ (code : List ℕ) (base : ℕ) where
       cases : (b : Bool) → (pick b (stops Done s) (stops Spent s)).number ≡ 1 → runs code base n s ≡ runs code base n (again (pick b (stops Done s) (stops Spent s)))
       cases true h = absurd (omega arith)
       cases false h = refl
-  continued (suc m) n s h = rw suc-add (cases (eqb s.place (length code)) (refuses (order_at code base s)) refl (continued m n s') h)
+  continued (suc m) n s h = rw suc-add (cases (eqb s.place (length code)) (order_at code base s) refl (λ o. continued m n (next_at code s o)) h)
     where
-      a : Answer
-      a = refusal_of (order_at code base s)
+      -- the run of k words more, after a completed word
+      on : ℕ → Order → Out
+      on k o = runs code base k (next_at code s o)
 
-      s' : State
-      s' = next_at code base s
-
-      cases : (b d : Bool) → refuses (order_at code base s) ≡ d
-          → ((runs code base m s').number ≡ 1 → runs code base (m + n) s' ≡ runs code base n (again (runs code base m s')))
-          → (pick b (stops Done s) (pick d (stops a s) (runs code base m s'))).number ≡ 1
-          → pick b (stops Done s) (pick d (stops a s) (runs code base (m + n) s')) ≡ runs code base n (again (pick b (stops Done s) (pick d (stops a s) (runs code base m s'))))
-      cases true d e ih h = absurd (omega arith)
-      cases false false e ih h = ih h
-      cases false true e ih h = let l = late code base s e in absurd (omega arith)
+      cases : (b : Bool) (r : Result Order Answer) → order_at code base s ≡ r
+          → ((o : Order) → (on m o).number ≡ 1 → on (m + n) o ≡ runs code base n (again (on m o)))
+          → (pick b (stops Done s) (went r s (on m))).number ≡ 1
+          → pick b (stops Done s) (went r s (on (m + n))) ≡ runs code base n (again (pick b (stops Done s) (went r s (on m))))
+      cases true r e ih h = absurd (omega arith)
+      cases false (Ok o) e ih h = ih o h
+      cases false (Err a) e ih h = let l = late code base s a e in absurd (omega arith)
 
   -- words completed before are added
   added : (k n : ℕ) (s : State) → runs code base n (later k s) ≡ later_out k (runs code base n s)
@@ -53,19 +52,18 @@ module _ (code : List ℕ) (base : ℕ) where
       cases true = refl
       cases false = refl
   added k (suc n) s =
-      cases (eqb s.place (length code)) (refuses (order_at code base s))
-      (ap (λ (c : ℕ). runs code base n (record { count = c; place = s.place + 1; m = (next_at code base s).m; mem = (next_at code base s).mem })) (add_assoc k s.count 1)
-      ∙ added k n (next_at code base s))
+      cases (eqb s.place (length code)) (order_at code base s)
+      (λ o. ap (λ (c : ℕ). runs code base n (record { count = c; place = s.place + 1; m = (next_at code s o).m; mem = (next_at code s o).mem })) (add_assoc k s.count 1)
+      ∙ added k n (next_at code s o))
     where
-      a : Answer
-      a = refusal_of (order_at code base s)
+      on : State → Order → Out
+      on t o = runs code base n (next_at code t o)
 
-      cases : (b d : Bool) → runs code base n (next_at code base (later k s)) ≡ later_out k (runs code base n (next_at code base s))
-          → pick b (stops Done (later k s)) (pick d (stops a (later k s)) (runs code base n (next_at code base (later k s))))
-          ≡ later_out k (pick b (stops Done s) (pick d (stops a s) (runs code base n (next_at code base s))))
-      cases true d ih = refl
-      cases false true ih = refl
-      cases false false ih = ih
+      cases : (b : Bool) (r : Result Order Answer) → ((o : Order) → on (later k s) o ≡ later_out k (on s o))
+          → pick b (stops Done (later k s)) (went r (later k s) (on (later k s))) ≡ later_out k (pick b (stops Done s) (went r s (on s)))
+      cases true r ih = refl
+      cases false (Err a) ih = refl
+      cases false (Ok o) ih = ih o
 
 -- the law of run; where m + n fits 32 bits, it is of runs that the code can be asked for
 pub resumed : (code mem : List ℕ) (base place m n : ℕ) (k : Machine) → (run_of code mem base place m k).number ≡ 1

@@ -1,7 +1,7 @@
 -- SAT, EXACTLY: a result has no mark exactly where every exact result was in range (`no_mark`), and SAT is off after a completed word exactly
 -- where mtvscr wrote a zero, or SAT was off and every exact result was in range (`sat_exactly`). Assumes nothing.
 use Prim.Native.Nat.{ℕ, zero, suc, ◌*◌, ◌^◌, ◌<◌}
-use mathlib.Core.Path.{◌≡◌, refl, sym, ap, ◌∙◌}
+use mathlib.Core.Path.{◌≡◌, refl, sym, ap, subst, ◌∙◌}
 use mathlib.Core.Bool.{Bool, true, false, cond, true≢false, ◌||◌}
 use mathlib.Core.List.{List}
 use mathlib.Core.Logic.{◌↔◌}
@@ -18,7 +18,7 @@ use Rattle.encodings.specs.declared.ops.Width.TheVariants as width
 use Rattle.encodings.specs.declared.ops.Sign.{Sign}
 use Rattle.encodings.specs.declared.ops.Sign.TheVariants.{Unsigned, Signed}
 use Rattle.encodings.specs.declared.ops.Op.{Op}
-use Rattle.encodings.specs.declared.ops.Op.TheVariants.{Unknown, AddMod, AddCarry, AddSat, SubMod, SubCarry, SubSat, Max, Min, Average, Rotate, ShiftLeft, ShiftRight, ShiftAlgebraic, ShiftWholeLeft, ShiftWholeRight, ShiftBytesLeft, ShiftBytesRight, And, AndNot, Or, Xor, Nor, FromStatus, ToStatus, MulOdd, MulEven, SumQuarter, SumHalf, SumAll, MergeHigh, MergeLow, Splat, SplatImmediate, PackMod, PackSat, UnpackHigh, UnpackLow, CompareEqual, CompareGreater, MulHighAdd, MulHighRoundAdd, MulLowAdd, MulSum, MulSumMixed, MulSumSat, Select, Permute, ShiftPair, LoadShiftLeft, LoadShiftRight, LoadElement, LoadLine, StoreElement, StoreLine, AddImmediate}
+use Rattle.encodings.specs.declared.ops.Op.TheVariants.{AddMod, AddCarry, AddSat, SubMod, SubCarry, SubSat, Max, Min, Average, Rotate, ShiftLeft, ShiftRight, ShiftAlgebraic, ShiftWholeLeft, ShiftWholeRight, ShiftBytesLeft, ShiftBytesRight, And, AndNot, Or, Xor, Nor, FromStatus, ToStatus, MulOdd, MulEven, SumQuarter, SumHalf, SumAll, MergeHigh, MergeLow, Splat, SplatImmediate, PackMod, PackSat, UnpackHigh, UnpackLow, CompareEqual, CompareGreater, MulHighAdd, MulHighRoundAdd, MulLowAdd, MulSum, MulSumMixed, MulSumSat, Select, Permute, ShiftPair, LoadShiftLeft, LoadShiftRight, LoadElement, LoadLine, StoreElement, StoreLine, AddImmediate}
 use Rattle.lanes.specs.declared.Lane.{Lane}
 use Rattle.lanes.specs.declared.Op.TheVariants as lane
 use Rattle.lanes.specs.declared.Size.TheVariants.{Byte, Half, Word}
@@ -29,20 +29,21 @@ use Rattle.packing.specs.Resized.{lane_of_both, unsigned}
 use Rattle.packing.specs.Summed.{signed_word, odd_words}
 use Rattle.compute.specs.Families.{size_of, by_sign, quarter_sums, packs_saturated}
 use Rattle.compute.specs.Computed.{computed}
+use Rattle.control.specs.declared.answers.Answer.{Answer}
 use Rattle.control.specs.declared.answers.Answer.TheVariants.{NoInstruction, Reserved}
-use Rattle.control.specs.declared.addresses.Item.{Item}
-use Rattle.control.specs.declared.addresses.Item.TheVariants.{At, Missing}
+use Rattle.std.specs.Prelude.{Option, Some, None, Result, Ok, Err, is_err}
+use Rattle.std.specs.Option.{option_map_or}
 use Rattle.control.specs.declared.kinds.Kind.{Kind}
-use Rattle.control.specs.declared.kinds.Kind.TheVariants.{Absent, Vector, GetStatus, PutStatus, LeftPattern, RightPattern, GetElement, GetLine, PutElement, PutLine, AddScalar}
+use Rattle.control.specs.declared.kinds.Kind.TheVariants.{Vector, GetStatus, PutStatus, LeftPattern, RightPattern, GetElement, GetLine, PutElement, PutLine, AddScalar}
 use Rattle.control.specs.declared.orders.Order.{Order}
-use Rattle.control.specs.declared.orders.Order.TheVariants.{Refuse, ReadLine, WriteLine}
+use Rattle.control.specs.declared.orders.Order.TheVariants.{ReadLine, WriteLine, ReadElement, WriteElement}
 use Rattle.control.specs.Addresses.{address_of, sum_of, bytes_of, aligned, item_of}
-use Rattle.control.specs.Kinds.{kind_of, is_absent}
-use Rattle.control.specs.Orders.{reached, read_element, write_element, order_in, order_of, refuses}
+use Rattle.control.specs.Kinds.{kind_of}
+use Rattle.control.specs.Orders.{reached, element, order_in, order_for, order_of}
 use Rattle.effects.specs.Effects.{Held, register, computed_of}
 use Rattle.machine.specs.declared.Machine.{Machine}
 use Rattle.machine.specs.Runs.{Out, run_of, order_at}
-use Rattle.laws.specs.Steps.{marks_of}
+use Rattle.laws.specs.Steps.{marks_of, marks_in}
 use Rattle.laws.specs.Exact.{QuarterSumsFit, PacksFit, InRange, Off}
 use Rattle.laws.proofs.Bytes.{part_bytes}
 use Rattle.laws.proofs.Clipped.{vector_clipped, applied_clipped}
@@ -89,7 +90,6 @@ module _ (a b c : List ℕ) (ha : Bytes a) (hb : Bytes b) (hc : Bytes c) where
 
   pub no_mark : (op : Op) (i n : ℕ) → (computed op a b c i n).marks ≡ 0 ↔ InRange op a b c
   unfolding computed
-  no_mark Unknown i n = never Unknown i n refl
   no_mark (AddMod w) i n = never (AddMod w) i n refl
   no_mark AddCarry i n = never AddCarry i n refl
   no_mark (AddSat w s) i n = applied_clipped (by_sign s lane.AddSatU lane.AddSatS) a b b ha hb hb (size_of w)
@@ -147,12 +147,12 @@ module _ (a b c : List ℕ) (ha : Bytes a) (hb : Bytes b) (hc : Bytes c) where
   no_mark AddImmediate i n = never AddImmediate i n refl
 
 -- what is reached in memory marks nothing
-reached_marks : (i : Item) (f : ℕ → Order) (w : Decoded) (h : Held) → ((k : ℕ) → marks_of (f k) w h ≡ 0) → marks_of (reached i f) w h ≡ 0
-reached_marks (At k) f w h e = e k
-reached_marks Missing f w h e = refl
+reached_marks : (i : Option ℕ) (f : ℕ → Order) (w : Decoded) (h : Held) → ((k : ℕ) → marks_of (f k) w h ≡ 0) → marks_in (reached i f) w h ≡ 0
+reached_marks (Some k) f w h e = e k
+reached_marks None f w h e = refl
 
--- a word and what data works on
-module _ (w : Decoded) (h : Held) (hv : Bytes h.v) where
+-- a word with the operation op, and what data works on
+module _ (w : Decoded) (op : Op) (h : Held) (hv : Bytes h.v) where
   abbrev A : List ℕ
   A = register h.v w.a
 
@@ -162,44 +162,54 @@ module _ (w : Decoded) (h : Held) (hv : Bytes h.v) where
   abbrev C : List ℕ
   C = register h.v w.c
 
-  exact : (i n : ℕ) → (computed w.op A B C i n).marks ≡ 0 ↔ InRange w.op A B C
-  exact = no_mark A B C (part_bytes h.v (16 * w.a) 16 hv) (part_bytes h.v (16 * w.b) 16 hv) (part_bytes h.v (16 * w.c) 16 hv) w.op
+  exact : (i n : ℕ) → (computed op A B C i n).marks ≡ 0 ↔ InRange op A B C
+  exact = no_mark A B C (part_bytes h.v (16 * w.a) 16 hv) (part_bytes h.v (16 * w.b) 16 hv) (part_bytes h.v (16 * w.c) 16 hv) op
 
   -- an order without marks, of an instruction that cannot clip
-  idle : (o : Order) → marks_of o w h ≡ 0 → can_clip w.op ≡ false → marks_of o w h ≡ 0 ↔ InRange w.op A B C
-  idle o e n = (λ z. (exact w.a w.count).0 (unmarked w.op A B C w.a w.count n), λ z. e)
+  idle : (r : Result Order Answer) → marks_in r w h ≡ 0 → can_clip op ≡ false → marks_in r w h ≡ 0 ↔ InRange op A B C
+  idle r e n = (λ z. (exact w.a w.count).0 (unmarked op A B C w.a w.count n), λ z. e)
 
-  kind_exact : (k : Kind) (x s base len : ℕ) → Told k w.op → marks_of (order_in k x s base len) w h ≡ 0 ↔ InRange w.op A B C
+  kind_exact : (k : Kind) (x s base len : ℕ) → Told k op → marks_in (order_in k op x s base len) w h ≡ 0 ↔ InRange op A B C
   unfolding computed_of
-  kind_exact Absent x s base len n = idle (order_in Absent x s base len) refl n.1
   kind_exact Vector x s base len n = exact w.a w.count
-  kind_exact GetStatus x s base len n = idle (order_in GetStatus x s base len) refl n
-  kind_exact PutStatus x s base len n = idle (order_in PutStatus x s base len) refl n.1
-  kind_exact LeftPattern x s base len n = idle (order_in LeftPattern x s base len) refl n
-  kind_exact RightPattern x s base len n = idle (order_in RightPattern x s base len) refl n
+  kind_exact GetStatus x s base len n = idle (order_in GetStatus op x s base len) refl n
+  kind_exact PutStatus x s base len n = idle (order_in PutStatus op x s base len) refl n.1
+  kind_exact LeftPattern x s base len n = idle (order_in LeftPattern op x s base len) refl n
+  kind_exact RightPattern x s base len n = idle (order_in RightPattern op x s base len) refl n
   kind_exact (GetElement z) x s base len n =
-      idle (order_in (GetElement z) x s base len)
-      (reached_marks (item_of (aligned (bytes_of z) x) base len) (read_element (aligned (bytes_of z) x) (bytes_of z)) w h (λ k. refl)) n
-  kind_exact GetLine x s base len n = idle (order_in GetLine x s base len) (reached_marks (item_of (aligned 16 x) base len) ReadLine w h (λ k. refl)) n
+      idle (order_in (GetElement z) op x s base len)
+      (reached_marks (item_of (aligned (bytes_of z) x) base len) (λ k. ReadElement (element (aligned (bytes_of z) x) (bytes_of z) k)) w h (λ k. refl)) n
+  kind_exact GetLine x s base len n = idle (order_in GetLine op x s base len) (reached_marks (item_of (aligned 16 x) base len) ReadLine w h (λ k. refl)) n
   kind_exact (PutElement z) x s base len n =
-      idle (order_in (PutElement z) x s base len)
-      (reached_marks (item_of (aligned (bytes_of z) x) base len) (write_element (aligned (bytes_of z) x) (bytes_of z)) w h (λ k. refl)) n
-  kind_exact PutLine x s base len n = idle (order_in PutLine x s base len) (reached_marks (item_of (aligned 16 x) base len) WriteLine w h (λ k. refl)) n
-  kind_exact AddScalar x s base len n = idle (order_in AddScalar x s base len) refl n
+      idle (order_in (PutElement z) op x s base len)
+      (reached_marks (item_of (aligned (bytes_of z) x) base len) (λ k. WriteElement (element (aligned (bytes_of z) x) (bytes_of z) k)) w h (λ k. refl)) n
+  kind_exact PutLine x s base len n = idle (order_in PutLine op x s base len) (reached_marks (item_of (aligned 16 x) base len) WriteLine w h (λ k. refl)) n
+  kind_exact AddScalar x s base len n = idle (order_in AddScalar op x s base len) refl n
 
-  -- an order that is carried out marks no lane exactly where every exact result is in range
-  order_exact : (g : List ℕ) (base len : ℕ) → refuses (order_of w g base len) ≡ false → marks_of (order_of w g base len) w h ≡ 0 ↔ InRange w.op A B C
+  -- a word that is carried out marks no lane exactly where every exact result is in range
+  order_exact : (g : List ℕ) (base len : ℕ) → w.op ≡ Some op → is_err (order_of w g base len) ≡ false → marks_in (order_of w g base len) w h ≡ 0 ↔ InRange op A B C
   unfolding order_of
-  order_exact g base len = cases (is_absent (kind_of w.op)) w.stray
+  order_exact g base len e = cases w.op e w.stray
     where
-      o : Order
-      o = order_in (kind_of w.op) (address_of g w.a w.b) (sum_of g w.a w.imm) base len
+      ordered : Bool → Op → Result Order Answer
+      ordered q o = pick q (Err Reserved) (order_in (kind_of o) o (address_of g w.a w.b) (sum_of g w.a w.imm) base len)
 
-      cases : (p q : Bool) → refuses (pick p (Refuse NoInstruction) (pick q (Refuse Reserved) o)) ≡ false
-          → marks_of (pick p (Refuse NoInstruction) (pick q (Refuse Reserved) o)) w h ≡ 0 ↔ InRange w.op A B C
-      cases true q r = absurd (true≢false r)
-      cases false true r = absurd (true≢false r)
-      cases false false r = kind_exact (kind_of w.op) (address_of g w.a w.b) (sum_of g w.a w.imm) base len (told w.op)
+      cases : (p : Option Op) → p ≡ Some op → (q : Bool) → is_err (option_map_or (ordered q) p (Err NoInstruction)) ≡ false
+          → marks_in (option_map_or (ordered q) p (Err NoInstruction)) w h ≡ 0 ↔ InRange op A B C
+      cases None e q r = absurd (true≢false r)
+      cases (Some o) e true r = absurd (true≢false r)
+      cases (Some o) e false r =
+          subst (λ (z : Op). marks_in (ordered false z) w h ≡ 0 ↔ InRange op A B C) (ap (λ (x : Option Op). option_map_or (λ (y : Op). y) x op) (sym e))
+          (kind_exact (kind_of op) (address_of g w.a w.b) (sum_of g w.a w.imm) base len (told op))
+
+-- a word that is not refused carries an instruction
+carries : (w : Decoded) (g : List ℕ) (base len : ℕ) → is_err (order_of w g base len) ≡ false → (op : Op) × (w.op ≡ Some op)
+unfolding order_of
+carries w g base len = cases w.op refl
+  where
+    cases : (p : Option Op) → w.op ≡ p → is_err (option_map_or (order_for w g base len) p (Err NoInstruction)) ≡ false → (op : Op) × (w.op ≡ Some op)
+    cases None e r = absurd (true≢false r)
+    cases (Some o) e r = (o, e)
 
 -- neither was it on nor is there a mark
 off : (b : Bool) (n : ℕ) → (b || ltb 0 n) ≡ false ↔ (b ≡ false) × (n ≡ 0)
@@ -215,26 +225,34 @@ module _ (code mem : List ℕ) (base place : ℕ) (m : Machine) (bytes : Bytes m
   unfolding order_at
   sat_exactly c = (forth, back)
     where
-      t : Order
+      t : Result Order Answer
       t = order code mem base place m
 
       h : Held
       h = held code mem base place m
 
-      carried : refuses t ≡ false
-      carried = ways code mem base place m (λ (o : Out). o.count ≡ 1 → refuses t ≡ false) (λ a n. absurd (omega arith)) (λ r a n. r) c
+      carried : is_err t ≡ false
+      carried = ways code mem base place m (λ (o : Out). o.count ≡ 1 → is_err t ≡ false) (λ a n. absurd (omega arith)) (λ o r a n. ap is_err r) c
 
-      exactly : marks_of t w h ≡ 0 ↔ InRange w.op (register m.v w.a) (register m.v w.b) (register m.v w.c)
-      exactly = order_exact w h bytes m.g base (length mem) carried
+      exactly : (op : Op) → w.op ≡ Some op → marks_in t w h ≡ 0 ↔ InRange op (register m.v w.a) (register m.v w.b) (register m.v w.c)
+      exactly op e = order_exact w op h bytes m.g base (length mem) e carried
+
+      -- a word of another instruction is not mtvscr
+      unlike : (op : Op) → w.op ≡ Some op → (op ≡ ToStatus → ⊥) → w.op ≡ Some ToStatus → ⊥
+      unlike op e n s = n (ap (λ (p : Option Op). option_map_or (λ (x : Op). x) p ToStatus) (sym e ∙ s))
 
       forth : (run_of code mem base place 1 m).m.sat ≡ false → Off w m
-      forth f = record { written = λ e. sym (mtvscr_sat code mem base place m c e) ∙ f; other = λ n. let s = (off m.sat (marks_of t w h)).0 (sym (other_sat code mem base place m c n) ∙ f) in (s.0, exactly.0 s.1) }
+      forth f =
+          record {
+            written = λ e. sym (mtvscr_sat code mem base place m c e) ∙ f;
+            other = λ op e n. let s = (off m.sat (marks_in t w h)).0 (sym (other_sat code mem base place m c (unlike op e n)) ∙ f) in (s.0, (exactly op e).0 s.1);
+          }
 
       back : Off w m → (run_of code mem base place 1 m).m.sat ≡ false
-      back o = cases (setting (kind_of w.op)) refl
+      back o = let p = carries w m.g base (length mem) carried in cases p.0 p.1 (setting (kind_of p.0)) refl
         where
-          cases : (b : Bool) → setting (kind_of w.op) ≡ b → (run_of code mem base place 1 m).m.sat ≡ false
-          cases true e = let s = status_kind w.op e in mtvscr_sat code mem base place m c s ∙ o.written s
-          cases false e =
-              let n : w.op ≡ ToStatus → ⊥ = λ s. true≢false (sym (ap (λ (p : Op). setting (kind_of p)) s) ∙ e) in
-              other_sat code mem base place m c n ∙ (off m.sat (marks_of t w h)).1 ((o.other n).0, exactly.1 (o.other n).1)
+          cases : (op : Op) → w.op ≡ Some op → (b : Bool) → setting (kind_of op) ≡ b → (run_of code mem base place 1 m).m.sat ≡ false
+          cases op e true k = let s = e ∙ ap Some (status_kind op k) in mtvscr_sat code mem base place m c s ∙ o.written s
+          cases op e false k =
+              let n : op ≡ ToStatus → ⊥ = λ s. true≢false (sym (ap (λ (q : Op). setting (kind_of q)) s) ∙ k) in
+              other_sat code mem base place m c (unlike op e n) ∙ (off m.sat (marks_in t w h)).1 ((o.other op e n).0, (exactly op e).1 (o.other op e n).1)

@@ -12,27 +12,27 @@ use Rattle.encodings.specs.Bits.{pick}
 use Rattle.decode.specs.declared.Decoded.{Decoded}
 use Rattle.control.specs.declared.answers.Answer.TheVariants.{Done, Spent, Misplaced, LongCode, BadStart}
 use Rattle.control.specs.declared.orders.Order.{Order}
-use Rattle.control.specs.declared.orders.Order.TheVariants.{Refuse, SetGeneral, Compute, ReadStatus, WriteStatus, PatternLeft, PatternRight, ReadLine, WriteLine, ReadElement, WriteElement}
+use Rattle.control.specs.declared.orders.Order.TheVariants.{SetGeneral, Compute, ReadStatus, WriteStatus, PatternLeft, PatternRight, ReadLine, WriteLine, ReadElement, WriteElement}
 use Rattle.control.specs.Addresses.{well_placed}
-use Rattle.control.specs.Orders.{refuses, refusal_of}
+use Rattle.control.specs.declared.answers.Answer.{Answer}
+use Rattle.std.specs.Prelude.{Result, Ok, Err}
 use Rattle.lines.proofs.Parts.{put_long}
 use Rattle.effects.specs.Effects.{Held, held_of, effect_of}
 use Rattle.machine.specs.declared.Machine.{Machine}
-use Rattle.machine.specs.Runs.{State, Out, flags_in, stops, starts, word_at, order_at, next, runs, run_of}
+use Rattle.machine.specs.Runs.{State, Out, flags_in, stops, starts, word_at, order_at, next, went, runs, run_of}
 use Rattle.laws.specs.Steps.{next_at}
 
 pub effect_long : (o : Order) (w : Decoded) (h : Held) → length (effect_of o w h).mem ≡ length h.mem
-effect_long (Refuse a) w h = refl
 effect_long (SetGeneral x) w h = refl
-effect_long Compute w h = refl
+effect_long (Compute op) w h = refl
 effect_long ReadStatus w h = refl
 effect_long WriteStatus w h = refl
 effect_long (PatternLeft s) w h = refl
 effect_long (PatternRight s) w h = refl
 effect_long (ReadLine at) w h = refl
 effect_long (WriteLine at) w h = put_long h.mem at _
-effect_long (ReadElement at place bytes) w h = refl
-effect_long (WriteElement at place bytes) w h = put_long h.mem (at + place) _
+effect_long (ReadElement e) w h = refl
+effect_long (WriteElement e) w h = put_long h.mem (e.at + e.place) _
 
 pub next_long : (o : Order) (w : Decoded) (s : State) → length (next o w s).mem ≡ length s.mem
 next_long o w s = effect_long o w (held_of s.m.v (flags_in s.m) s.mem)
@@ -46,25 +46,22 @@ module _ (code : List ℕ) (base : ℕ) where
       cases : (b : Bool) → (length (pick b (stops Done s) (stops Spent s)).mem ≡ length s.mem) × ((pick b (stops Done s) (stops Spent s)).place ≤ length code)
       cases true = (refl, h)
       cases false = (refl, h)
-  stays (suc n) s h = cases (eqb s.place (length code)) refl (refuses o) (stays n s')
+  stays (suc n) s h = cases (eqb s.place (length code)) refl (order_at code base s) (λ o. stays n (next_at code s o))
     where
-      o : Order
-      o = order_at code base s
-
-      s' : State
-      s' = next_at code base s
+      on : Order → Out
+      on o = runs code base n (next_at code s o)
 
       Good : Out → Type 0
       Good r = (length r.mem ≡ length s.mem) × (r.place ≤ length code)
 
-      cases : (b : Bool) → eqb s.place (length code) ≡ b → (d : Bool)
-          → (s.place + 1 ≤ length code → (length (runs code base n s').mem ≡ length s'.mem) × ((runs code base n s').place ≤ length code))
-          → Good (pick b (stops Done s) (pick d (stops (refusal_of o) s) (runs code base n s')))
-      cases true e d ih = (refl, h)
-      cases false e false ih =
-          let p = ih (omega (arith, eqb-false s.place (length code) e)) in
+      cases : (b : Bool) → eqb s.place (length code) ≡ b → (r : Result Order Answer)
+          → ((o : Order) → s.place + 1 ≤ length code → (length (on o).mem ≡ length (next_at code s o).mem) × ((on o).place ≤ length code))
+          → Good (pick b (stops Done s) (went r s on))
+      cases true e r ih = (refl, h)
+      cases false e (Ok o) ih =
+          let p = ih o (omega (arith, eqb-false s.place (length code) e)) in
           (p.0 ∙ next_long o (word_at code s) s, p.1)
-      cases false e true ih = (refl, h)
+      cases false e (Err a) ih = (refl, h)
 
 -- a run keeps the memory's length, whatever it is given
 pub memory_kept : (code mem : List ℕ) (base place allowance : ℕ) (m : Machine) → length (run_of code mem base place allowance m).mem ≡ length mem

@@ -7,9 +7,10 @@ use lib.ListN.{get_or}
 use Rattle.control.specs.declared.answers.Answer.{Answer}
 use Rattle.control.specs.declared.answers.Answer.TheVariants.{Done, Spent, Misplaced, LongCode, BadStart, NoInstruction, Reserved, Outside}
 use Rattle.decode.specs.declared.Decoded.{Decoded}
+use Rattle.std.specs.Prelude.{Result}
 use Rattle.control.specs.declared.orders.Order.{Order}
 use Rattle.control.specs.Answers.{number_of}
-use Rattle.control.specs.Orders.{general_of, Controls}
+use Rattle.control.specs.Orders.{general_after, Controls}
 use Rattle.machine.specs.declared.walk.Report.{Report}
 use Rattle.machine.specs.declared.Machine.{Machine}
 use Rattle.machine.specs.Runs.{Out, Gives}
@@ -47,5 +48,5 @@ one_outcome {o} {r} {r'} p q =
     (same_report r r' a (p.count ∙ sym q.count) (p.place ∙ sym q.place), p.m ∙ sym q.m, p.mem ∙ sym q.mem)
 
 -- control: the general registers
-pub one_general : (w : Decoded) (g : List ℕ) (base len : ℕ) (r r' : Order) (h h' : List ℕ) → Controls w g base len r h → Controls w g base len r' h' → h ≡ h'
-one_general w g base len r r' h h' p q = p.general ∙ ap (λ (o : Order). general_of o w.d g) (p.order ∙ sym q.order) ∙ sym q.general
+pub one_general : (w : Decoded) (g : List ℕ) (base len : ℕ) (r r' : Result Order Answer) (h h' : List ℕ) → Controls w g base len r h → Controls w g base len r' h' → h ≡ h'
+one_general w g base len r r' h h' p q = p.general ∙ ap (λ (o : Result Order Answer). general_after o w.d g) (p.order ∙ sym q.order) ∙ sym q.general

@@ -1,74 +1,61 @@
 -- A word is refused with 5, 6 or 7 and with no other answer.
 -- Assumes nothing.
 use Prim.Native.Nat.{ℕ, ◌≤◌}
-use mathlib.Core.Path.{◌≡◌, refl, sym, ◌∙◌}
-use mathlib.Core.Bool.{Bool, true, false, true≢false}
+use mathlib.Core.Path.{◌≡◌, subst}
+use mathlib.Core.Bool.{Bool, true, false}
 use mathlib.Core.List.{List}
 use native.Mathlib.Omega.{arith}
 use lib.ListN.{length}
 use Rattle.encodings.specs.Bits.{pick}
 use Rattle.decode.specs.declared.Decoded.{Decoded}
+use Rattle.control.specs.declared.answers.Answer.{Answer}
 use Rattle.control.specs.declared.answers.Answer.TheVariants.{NoInstruction, Reserved}
 use Rattle.control.specs.declared.kinds.Kind.{Kind}
-use Rattle.control.specs.declared.kinds.Kind.TheVariants.{Absent, Vector, GetStatus, PutStatus, LeftPattern, RightPattern, GetElement, GetLine, PutElement, PutLine, AddScalar}
-use Rattle.control.specs.declared.addresses.Item.{Item}
-use Rattle.control.specs.declared.addresses.Item.TheVariants.{At, Missing}
+use Rattle.control.specs.declared.kinds.Kind.TheVariants.{Vector, GetStatus, PutStatus, LeftPattern, RightPattern, GetElement, GetLine, PutElement, PutLine, AddScalar}
+use Rattle.std.specs.Prelude.{Option, Some, None, Result, Ok, Err}
+use Rattle.std.specs.Option.{option_map_or}
+use Rattle.encodings.specs.declared.ops.Op.{Op}
 use Rattle.control.specs.declared.orders.Order.{Order}
-use Rattle.control.specs.declared.orders.Order.TheVariants.{Refuse, SetGeneral, Compute, ReadStatus, WriteStatus, PatternLeft, PatternRight, ReadLine, WriteLine, ReadElement, WriteElement}
+use Rattle.control.specs.declared.orders.Order.TheVariants.{ReadLine, WriteLine, ReadElement, WriteElement}
 use Rattle.control.specs.Addresses.{address_of, sum_of, bytes_of, aligned, item_of}
 use Rattle.control.specs.Answers.{number_of}
-use Rattle.control.specs.Kinds.{kind_of, is_absent}
-use Rattle.control.specs.Orders.{reached, read_element, write_element, order_in, order_of, refuses, refusal_of}
+use Rattle.control.specs.Kinds.{kind_of}
+use Rattle.control.specs.Orders.{reached, element, order_in, order_of}
 use Rattle.machine.specs.Runs.{State, word_at, order_at}
 
--- an order that refuses has its answer
-pub refusing : (o : Order) → refuses o ≡ true → o ≡ Refuse (refusal_of o)
-refusing (Refuse a) h = refl
-refusing (SetGeneral x) h = absurd (true≢false (sym h))
-refusing Compute h = absurd (true≢false (sym h))
-refusing ReadStatus h = absurd (true≢false (sym h))
-refusing WriteStatus h = absurd (true≢false (sym h))
-refusing (PatternLeft s) h = absurd (true≢false (sym h))
-refusing (PatternRight s) h = absurd (true≢false (sym h))
-refusing (ReadLine at) h = absurd (true≢false (sym h))
-refusing (WriteLine at) h = absurd (true≢false (sym h))
-refusing (ReadElement at place bytes) h = absurd (true≢false (sym h))
-refusing (WriteElement at place bytes) h = absurd (true≢false (sym h))
+-- a word that is refused has an answer from 5 on
+Late : Result Order Answer → Type 0
+Late (Ok o) = Unit {0}
+Late (Err a) = 5 ≤ number_of a
 
--- its answer, where it refuses, is 5, 6 or 7
-Late : Order → Type 0
-Late o = refuses o ≡ true → 5 ≤ number_of (refusal_of o)
-
-reached_late : (i : Item) (f : ℕ → Order) → ((k : ℕ) → refuses (f k) ≡ false) → Late (reached i f)
+reached_late : (i : Option ℕ) (f : ℕ → Order) → Late (reached i f)
 unfolding Late
-reached_late (At k) f h = λ e. absurd (true≢false (sym e ∙ h k))
-reached_late Missing f h = λ e. omega arith
+reached_late (Some k) f = tt
+reached_late None f = omega arith
 
-kind_late : (k : Kind) (x s base len : ℕ) → Late (order_in k x s base len)
+kind_late : (k : Kind) (o : Op) (x s base len : ℕ) → Late (order_in k o x s base len)
 unfolding Late
-kind_late Absent x s base len = λ e. omega arith
-kind_late Vector x s base len = λ e. absurd (true≢false (sym e))
-kind_late GetStatus x s base len = λ e. absurd (true≢false (sym e))
-kind_late PutStatus x s base len = λ e. absurd (true≢false (sym e))
-kind_late LeftPattern x s base len = λ e. absurd (true≢false (sym e))
-kind_late RightPattern x s base len = λ e. absurd (true≢false (sym e))
-kind_late (GetElement w) x s base len = reached_late (item_of (aligned (bytes_of w) x) base len) (read_element (aligned (bytes_of w) x) (bytes_of w)) (λ k. refl)
-kind_late GetLine x s base len = reached_late (item_of (aligned 16 x) base len) ReadLine (λ k. refl)
-kind_late (PutElement w) x s base len = reached_late (item_of (aligned (bytes_of w) x) base len) (write_element (aligned (bytes_of w) x) (bytes_of w)) (λ k. refl)
-kind_late PutLine x s base len = reached_late (item_of (aligned 16 x) base len) WriteLine (λ k. refl)
-kind_late AddScalar x s base len = λ e. absurd (true≢false (sym e))
+kind_late Vector o x s base len = tt
+kind_late GetStatus o x s base len = tt
+kind_late PutStatus o x s base len = tt
+kind_late LeftPattern o x s base len = tt
+kind_late RightPattern o x s base len = tt
+kind_late (GetElement w) o x s base len = reached_late (item_of (aligned (bytes_of w) x) base len) (λ k. ReadElement (element (aligned (bytes_of w) x) (bytes_of w) k))
+kind_late GetLine o x s base len = reached_late (item_of (aligned 16 x) base len) ReadLine
+kind_late (PutElement w) o x s base len = reached_late (item_of (aligned (bytes_of w) x) base len) (λ k. WriteElement (element (aligned (bytes_of w) x) (bytes_of w) k))
+kind_late PutLine o x s base len = reached_late (item_of (aligned 16 x) base len) WriteLine
+kind_late AddScalar o x s base len = tt
 
-pub late : (code : List ℕ) (base : ℕ) (s : State) → refuses (order_at code base s) ≡ true → 5 ≤ number_of (refusal_of (order_at code base s))
-unfolding order_at order_of Late
-late code base s = cases (is_absent (kind_of w.op)) w.stray
+order_late : (w : Decoded) (g : List ℕ) (base len : ℕ) → Late (order_of w g base len)
+unfolding order_of Late
+order_late w g base len = cases w.op w.stray
   where
-    w : Decoded
-    w = word_at code s
+    cases : (p : Option Op) (q : Bool)
+        → Late (option_map_or (λ (o : Op). pick q (Err Reserved) (order_in (kind_of o) o (address_of g w.a w.b) (sum_of g w.a w.imm) base len)) p (Err NoInstruction))
+    cases None q = omega arith
+    cases (Some o) true = omega arith
+    cases (Some o) false = kind_late (kind_of o) o (address_of g w.a w.b) (sum_of g w.a w.imm) base len
 
-    o : Order
-    o = order_in (kind_of w.op) (address_of s.m.g w.a w.b) (sum_of s.m.g w.a w.imm) base (length s.mem)
-
-    cases : (a b : Bool) → Late (pick a (Refuse NoInstruction) (pick b (Refuse Reserved) o))
-    cases true b = λ e. omega arith
-    cases false true = λ e. omega arith
-    cases false false = kind_late (kind_of w.op) (address_of s.m.g w.a w.b) (sum_of s.m.g w.a w.imm) base (length s.mem)
+pub late : (code : List ℕ) (base : ℕ) (s : State) (a : Answer) → order_at code base s ≡ Err a → 5 ≤ number_of a
+unfolding order_at Late
+late code base s a e = subst Late e (order_late (word_at code s) s.m.g base (length s.mem))

@@ -1,7 +1,7 @@
 -- THE REORDERING LAW, demand 3: code with no position-bound instruction does not see the order of the words.
 -- Assumes nothing.
 use Prim.Native.Nat.{ℕ, zero, suc, ◌*◌, ◌<◌}
-use mathlib.Core.Path.{◌≡◌, refl, ap, ◌∙◌}
+use mathlib.Core.Path.{◌≡◌, refl, sym, ap, subst, ◌∙◌}
 use mathlib.Core.Bool.{Bool, true, false}
 use mathlib.Core.List.{List}
 use native.Mathlib.Omega.{arith}
@@ -9,6 +9,8 @@ use lib.ListN.{length, get_or}
 use lib.Dec.{eqb, leb}
 use Rattle.encodings.specs.Bits.{pick}
 use Rattle.decode.specs.declared.Decoded.{Decoded}
+use Rattle.std.specs.Prelude.{Result, Ok, Err}
+use Rattle.encodings.specs.declared.ops.Op.{Op}
 use Rattle.decode.specs.Traits.{position_bound}
 use Rattle.lanes.specs.declared.Marked.{Marked}
 use Rattle.lanes.specs.Order as lanes
@@ -17,22 +19,22 @@ use Rattle.lines.proofs.Parts.{part_long, put_long}
 use Rattle.control.specs.declared.answers.Answer.{Answer}
 use Rattle.control.specs.declared.answers.Answer.TheVariants.{Done, Spent, Misplaced, LongCode, BadStart}
 use Rattle.control.specs.declared.orders.Order.{Order}
-use Rattle.control.specs.declared.orders.Order.TheVariants.{Refuse, SetGeneral, Compute, ReadStatus, WriteStatus, PatternLeft, PatternRight, ReadLine, WriteLine, ReadElement, WriteElement}
+use Rattle.control.specs.declared.orders.Order.TheVariants.{SetGeneral, Compute, ReadStatus, WriteStatus, PatternLeft, PatternRight, ReadLine, WriteLine, ReadElement, WriteElement}
 use Rattle.control.specs.Addresses.{well_placed}
-use Rattle.control.specs.Orders.{refuses, refusal_of, InFields, Reaches}
+use Rattle.control.specs.Orders.{InFields, Reaches}
 use Rattle.control.proofs.Fields.{decoded}
-use Rattle.control.proofs.Within.{reaches}
+use Rattle.control.proofs.Within.{reaches_ok}
 use Rattle.flags.specs.Flags.{marked_of, recorded_of}
 use Rattle.effects.specs.Effects.{Held, held_of, register, computed_of, flags_after, effect_of}
 use Rattle.machine.specs.declared.Machine.{Machine}
-use Rattle.machine.specs.Runs.{State, Out, flags_in, starts, stops, word_at, order_at, next, runs, run_of}
+use Rattle.machine.specs.Runs.{State, Out, flags_in, starts, stops, word_at, order_at, next, went, runs, run_of}
 use Rattle.laws.specs.Steps.{next_at}
 use Rattle.laws.specs.Reorder.{reordered_lines, reordered_machine, reordered_out, free, Whole}
 use Rattle.laws.proofs.Kept.{next_long}
 use Rattle.laws.proofs.Bytes.{part_bytes, put-bytes}
 use Rattle.laws.proofs.ReorderedLines.{lines_long, lines_sixteen, lines_put}
 use Rattle.laws.proofs.ReorderedOperations.{Alike, computed_alike, summary_alike}
-use Rattle.laws.proofs.ReorderedOrders.{Unseen, order_unseen, free_at}
+use Rattle.laws.proofs.ReorderedOrders.{Unseen, UnseenIn, order_unseen, free_at}
 
 -- what data works on, reordered; and where a run stands
 abbrev reordered_held : (ℕ → ℕ) → Held → Held
@@ -59,48 +61,45 @@ module _ (p : ℕ → ℕ) (o : lanes.Order p) where
     kept : (x : List ℕ) → lanes.Bytes x → Whole (put h.v (16 * w.d) x) h.mem
     kept x b = record { wide = put_long h.v (16 * w.d) x ∙ k.wide; vectors = put-bytes x h.v (16 * w.d) k.vectors b; memory = k.memory }
 
-    result : position_bound w.op ≡ false → Alike p (computed_of w h.v) (computed_of w (reordered_lines p h.v))
+    result : (op : Op) → position_bound op ≡ false → Alike p (computed_of op w h.v) (computed_of op w (reordered_lines p h.v))
     unfolding computed_of
-    result e =
+    result op e =
         rw (read w.a f.a, read w.b f.b, read w.c f.c)
         (computed_alike p o (register h.v w.a) (register h.v w.b) (register h.v w.c) (register_long w.a f.a)
-        (register-bytes w.a) (register-bytes w.b) (register-bytes w.c) w.op w.a w.count e (omega (arith, f.a)))
+        (register-bytes w.a) (register-bytes w.b) (register-bytes w.c) op w.a w.count e (omega (arith, f.a)))
 
-    flags_alike : (x y : Marked) → Alike p x y → flags_after w y h.flags ≡ flags_after w x h.flags
+    flags_alike : (op : Op) (x y : Marked) → Alike p x y → flags_after op w y h.flags ≡ flags_after op w x h.flags
     unfolding flags_after marked_of recorded_of
-    flags_alike x y a = rw (a.clipped, a.bytes, summary_alike p o x.bytes a.small)
+    flags_alike op x y a = rw (a.clipped, a.bytes, summary_alike p o x.bytes a.small)
 
-    effect_reordered : (t : Order) → Unseen t → Reaches t (length h.mem) → position_bound w.op ≡ false
-        → effect_of t w (reordered_held p h) ≡ reordered_held p (effect_of t w h)
-    effect_reordered (Refuse a) u r e = refl
-    effect_reordered (SetGeneral x) u r e = refl
-    effect_reordered Compute u r e =
-        let a = result e in
-        rw (flags_alike _ _ a, a.bytes, written _ a.long)
-    effect_reordered ReadStatus u r e = absurd u
-    effect_reordered WriteStatus u r e = absurd u
-    effect_reordered (PatternLeft s) u r e = absurd u
-    effect_reordered (PatternRight s) u r e = absurd u
-    effect_reordered (ReadLine at) u r e =
+    effect_reordered : (t : Order) → Unseen t → Reaches t (length h.mem) → effect_of t w (reordered_held p h) ≡ reordered_held p (effect_of t w h)
+    effect_reordered (SetGeneral x) u r = refl
+    effect_reordered (Compute op) u r =
+        let a = result op u in
+        rw (flags_alike op _ _ a, a.bytes, written _ a.long)
+    effect_reordered ReadStatus u r = absurd u
+    effect_reordered WriteStatus u r = absurd u
+    effect_reordered (PatternLeft s) u r = absurd u
+    effect_reordered (PatternRight s) u r = absurd u
+    effect_reordered (ReadLine at) u r =
         rw (lines_sixteen p h.mem at r.starts r.ends, written (sixteen h.mem at) (part_long h.mem at 16 r.ends))
-    effect_reordered (WriteLine at) u r e =
+    effect_reordered (WriteLine at) u r =
         rw (read w.d f.d, lines_put p h.mem (register h.v w.d) at r.starts r.ends (register_long w.d f.d))
-    effect_reordered (ReadElement at place bytes) u r e = absurd u
-    effect_reordered (WriteElement at place bytes) u r e = absurd u
+    effect_reordered (ReadElement e) u r = absurd u
+    effect_reordered (WriteElement e) u r = absurd u
 
-    effect_whole : (t : Order) → Unseen t → position_bound w.op ≡ false → Whole (effect_of t w h).v (effect_of t w h).mem
-    effect_whole (Refuse a) u e = k
-    effect_whole (SetGeneral x) u e = k
-    effect_whole Compute u e = kept (computed_of w h.v).bytes (result e).small
-    effect_whole ReadStatus u e = absurd u
-    effect_whole WriteStatus u e = absurd u
-    effect_whole (PatternLeft s) u e = absurd u
-    effect_whole (PatternRight s) u e = absurd u
-    effect_whole (ReadLine at) u e = kept (sixteen h.mem at) (part_bytes h.mem at 16 k.memory)
-    effect_whole (WriteLine at) u e =
+    effect_whole : (t : Order) → Unseen t → Whole (effect_of t w h).v (effect_of t w h).mem
+    effect_whole (SetGeneral x) u = k
+    effect_whole (Compute op) u = kept (computed_of op w h.v).bytes (result op u).small
+    effect_whole ReadStatus u = absurd u
+    effect_whole WriteStatus u = absurd u
+    effect_whole (PatternLeft s) u = absurd u
+    effect_whole (PatternRight s) u = absurd u
+    effect_whole (ReadLine at) u = kept (sixteen h.mem at) (part_bytes h.mem at 16 k.memory)
+    effect_whole (WriteLine at) u =
         record { wide = k.wide; vectors = k.vectors; memory = put-bytes (register h.v w.d) h.mem at k.memory (register-bytes w.d) }
-    effect_whole (ReadElement at place bytes) u e = absurd u
-    effect_whole (WriteElement at place bytes) u e = absurd u
+    effect_whole (ReadElement e) u = absurd u
+    effect_whole (WriteElement e) u = absurd u
 
 -- the second outcome is the first reordered
 record Follows (p : ℕ → ℕ) (x y : Out) : Type 0 where
@@ -119,10 +118,8 @@ module _ (p : ℕ → ℕ) (o : lanes.Order p) where
     unfolding order_at
     order_reordered s = rw (lines_long p s.mem)
 
-    module _ (s : State) (k : Whole s.m.v s.mem) where
-      abbrev t : Order
-      t = order_at code base s
-
+    -- a word that is carried out, and its order t
+    module _ (s : State) (k : Whole s.m.v s.mem) (t : Order) (e : order_at code base s ≡ Ok t) where
       abbrev w : Decoded
       w = word_at code s
 
@@ -131,29 +128,34 @@ module _ (p : ℕ → ℕ) (o : lanes.Order p) where
 
       unseen_order : Unseen t
       unfolding order_at
-      unseen_order = order_unseen w s.m.g base (length s.mem) (free_at code s.place unseen)
+      unseen_order = subst UnseenIn e (order_unseen w s.m.g base (length s.mem) (free_at code s.place unseen))
 
       reached_order : well_placed base (length s.mem) ≡ true → Reaches t (length s.mem)
       unfolding order_at
-      reached_order q = reaches w s.m.g base (length s.mem) q
+      reached_order q = reaches_ok w s.m.g base (length s.mem) t q (sym e)
 
-      next_reordered : well_placed base (length s.mem) ≡ true → next t w (reordered_state p s) ≡ reordered_state p (next_at code base s)
-      next_reordered q =
-          rw (effect_reordered p o h k w (decoded (get_or code s.place 0)) t unseen_order (reached_order q) (free_at code s.place unseen))
+      next_reordered : well_placed base (length s.mem) ≡ true → next t w (reordered_state p s) ≡ reordered_state p (next_at code s t)
+      next_reordered q = rw (effect_reordered p o h k w (decoded (get_or code s.place 0)) t unseen_order (reached_order q))
 
-      next_whole : Whole (next_at code base s).m.v (next_at code base s).mem
-      next_whole = effect_whole p o h k w (decoded (get_or code s.place 0)) t unseen_order (free_at code s.place unseen)
+      next_whole : Whole (next_at code s t).m.v (next_at code s t).mem
+      next_whole = effect_whole p o h k w (decoded (get_or code s.place 0)) t unseen_order
 
     runs_reordered : (n : ℕ) (s : State) → Whole s.m.v s.mem → well_placed base (length s.mem) ≡ true
         → Follows p (runs code base n s) (runs code base n (reordered_state p s))
     unfolding runs
     runs_reordered zero s k q = picked₂ (eqb s.place (length code)) (stop p Done s) (stop p Spent s)
     runs_reordered (suc n) s k q =
-        let l : well_placed base (length (next_at code base s).mem) ≡ true = ap (well_placed base) (next_long (t s k) (w s k) s) ∙ q in
         rw (order_reordered s)
         (picked₂ (eqb s.place (length code)) (stop p Done s)
-        (picked₂ (refuses (t s k)) (stop p (refusal_of (t s k)) s)
-        (rw (next_reordered s k q) (runs_reordered n (next_at code base s) (next_whole s k) l))))
+        (cases (order_at code base s) refl (λ t e.
+        let l : well_placed base (length (next_at code s t).mem) ≡ true = ap (well_placed base) (next_long t (word_at code s) s) ∙ q in
+        rw (next_reordered s k t e q) (runs_reordered n (next_at code s t) (next_whole s k t e) l))))
+      where
+        cases : (r : Result Order Answer) → order_at code base s ≡ r
+            → ((t : Order) → order_at code base s ≡ Ok t → Follows p (runs code base n (next_at code s t)) (runs code base n (next_at code (reordered_state p s) t)))
+            → Follows p (went r s (λ (t : Order). runs code base n (next_at code s t))) (went r (reordered_state p s) (λ (t : Order). runs code base n (next_at code (reordered_state p s) t)))
+        cases (Err a) e ih = stop p a s
+        cases (Ok t) e ih = ih t e
 
   -- the run from the reordered machine and memory ends as the run, reordered: for every base, place and allowance, refusals included
   pub reordered_run : (code mem : List ℕ) (base place allowance : ℕ) (m : Machine) → free code ≡ true → Whole m.v mem

@@ -8,38 +8,37 @@ use lib.ListN.{get_or}
 use Rattle.encodings.specs.Bits.{pick}
 use Rattle.decode.specs.declared.Decoded.{Decoded}
 use Rattle.encodings.specs.declared.ops.Op.{Op}
-use Rattle.encodings.specs.declared.ops.Op.TheVariants.{Unknown, AddMod, AddCarry, AddSat, SubMod, SubCarry, SubSat, Max, Min, Average, Rotate, ShiftLeft, ShiftRight, ShiftAlgebraic, ShiftWholeLeft, ShiftWholeRight, ShiftBytesLeft, ShiftBytesRight, And, AndNot, Or, Xor, Nor, FromStatus, ToStatus, MulOdd, MulEven, SumQuarter, SumHalf, SumAll, MergeHigh, MergeLow, Splat, SplatImmediate, PackMod, PackSat, UnpackHigh, UnpackLow, CompareEqual, CompareGreater, MulHighAdd, MulHighRoundAdd, MulLowAdd, MulSum, MulSumMixed, MulSumSat, Select, Permute, ShiftPair, LoadShiftLeft, LoadShiftRight, LoadElement, LoadLine, StoreElement, StoreLine, AddImmediate}
+use Rattle.encodings.specs.declared.ops.Op.TheVariants.{AddMod, AddCarry, AddSat, SubMod, SubCarry, SubSat, Max, Min, Average, Rotate, ShiftLeft, ShiftRight, ShiftAlgebraic, ShiftWholeLeft, ShiftWholeRight, ShiftBytesLeft, ShiftBytesRight, And, AndNot, Or, Xor, Nor, FromStatus, ToStatus, MulOdd, MulEven, SumQuarter, SumHalf, SumAll, MergeHigh, MergeLow, Splat, SplatImmediate, PackMod, PackSat, UnpackHigh, UnpackLow, CompareEqual, CompareGreater, MulHighAdd, MulHighRoundAdd, MulLowAdd, MulSum, MulSumMixed, MulSumSat, Select, Permute, ShiftPair, LoadShiftLeft, LoadShiftRight, LoadElement, LoadLine, StoreElement, StoreLine, AddImmediate}
 use Rattle.encodings.specs.Encodings.{op_of}
 use Rattle.decode.specs.Traits.{position_bound}
+use Rattle.control.specs.declared.answers.Answer.{Answer}
 use Rattle.control.specs.declared.answers.Answer.TheVariants.{NoInstruction, Reserved}
-use Rattle.control.specs.declared.addresses.Item.{Item}
-use Rattle.control.specs.declared.addresses.Item.TheVariants.{At, Missing}
+use Rattle.std.specs.Prelude.{Option, Some, None, Result, Ok, Err}
+use Rattle.std.specs.Option.{option_map_or}
 use Rattle.control.specs.declared.kinds.Kind.{Kind}
-use Rattle.control.specs.declared.kinds.Kind.TheVariants.{Absent, Vector, GetStatus, PutStatus, LeftPattern, RightPattern, GetElement, GetLine, PutElement, PutLine, AddScalar}
+use Rattle.control.specs.declared.kinds.Kind.TheVariants.{Vector, GetStatus, PutStatus, LeftPattern, RightPattern, GetElement, GetLine, PutElement, PutLine, AddScalar}
 use Rattle.control.specs.declared.orders.Order.{Order}
-use Rattle.control.specs.declared.orders.Order.TheVariants.{Refuse, SetGeneral, Compute, ReadStatus, WriteStatus, PatternLeft, PatternRight, ReadLine, WriteLine, ReadElement, WriteElement}
+use Rattle.control.specs.declared.orders.Order.TheVariants.{SetGeneral, Compute, ReadStatus, WriteStatus, PatternLeft, PatternRight, ReadLine, WriteLine, ReadElement, WriteElement}
 use Rattle.control.specs.Addresses.{address_of, sum_of, aligned, item_of}
-use Rattle.control.specs.Kinds.{kind_of, is_absent}
+use Rattle.control.specs.Kinds.{kind_of}
 use Rattle.control.specs.Orders.{reached, order_in, order_of}
 use Rattle.laws.specs.Reorder.{free}
 
 -- an order that an instruction which is not position-bound can have
 abbrev pub Unseen : Order → Type 0
-Unseen (Refuse a) = Unit {0}
 Unseen (SetGeneral x) = Unit {0}
-Unseen Compute = Unit {0}
+Unseen (Compute op) = position_bound op ≡ false
 Unseen ReadStatus = ⊥
 Unseen WriteStatus = ⊥
 Unseen (PatternLeft s) = ⊥
 Unseen (PatternRight s) = ⊥
 Unseen (ReadLine at) = Unit {0}
 Unseen (WriteLine at) = Unit {0}
-Unseen (ReadElement at place bytes) = ⊥
-Unseen (WriteElement at place bytes) = ⊥
+Unseen (ReadElement e) = ⊥
+Unseen (WriteElement e) = ⊥
 
 -- its kind
 abbrev FreeKind : Kind → Type 0
-FreeKind Absent = Unit {0}
 FreeKind Vector = Unit {0}
 FreeKind GetStatus = ⊥
 FreeKind PutStatus = ⊥
@@ -52,7 +51,6 @@ FreeKind PutLine = Unit {0}
 FreeKind AddScalar = Unit {0}
 
 free_kind : (op : Op) → position_bound op ≡ false → FreeKind (kind_of op)
-free_kind Unknown h = tt
 free_kind (AddMod w) h = tt
 free_kind AddCarry h = tt
 free_kind (AddSat w s) h = tt
@@ -109,42 +107,48 @@ free_kind (StoreElement w) h = true≢false h
 free_kind StoreLine h = tt
 free_kind AddImmediate h = tt
 
-reached_unseen : (i : Item) (f : ℕ → Order) → ((k : ℕ) → Unseen (f k)) → Unseen (reached i f)
-reached_unseen (At k) f h = h k
-reached_unseen Missing f h = tt
+-- what is ordered, if anything
+abbrev pub UnseenIn : Result Order Answer → Type 0
+UnseenIn (Ok o) = Unseen o
+UnseenIn (Err a) = Unit {0}
 
-kind_unseen : (k : Kind) (x s base len : ℕ) → FreeKind k → Unseen (order_in k x s base len)
-kind_unseen Absent x s base len h = tt
-kind_unseen Vector x s base len h = tt
-kind_unseen GetStatus x s base len h = h
-kind_unseen PutStatus x s base len h = h
-kind_unseen LeftPattern x s base len h = h
-kind_unseen RightPattern x s base len h = h
-kind_unseen (GetElement w) x s base len h = absurd h
-kind_unseen GetLine x s base len h = reached_unseen (item_of (aligned 16 x) base len) ReadLine (λ k. tt)
-kind_unseen (PutElement w) x s base len h = absurd h
-kind_unseen PutLine x s base len h = reached_unseen (item_of (aligned 16 x) base len) WriteLine (λ k. tt)
-kind_unseen AddScalar x s base len h = tt
+reached_unseen : (i : Option ℕ) (f : ℕ → Order) → ((k : ℕ) → Unseen (f k)) → UnseenIn (reached i f)
+reached_unseen (Some k) f h = h k
+reached_unseen None f h = tt
 
-pub order_unseen : (w : Decoded) (g : List ℕ) (base len : ℕ) → position_bound w.op ≡ false → Unseen (order_of w g base len)
+kind_unseen : (k : Kind) (o : Op) (x s base len : ℕ) → FreeKind k → position_bound o ≡ false → UnseenIn (order_in k o x s base len)
+kind_unseen Vector o x s base len h b = b
+kind_unseen GetStatus o x s base len h b = h
+kind_unseen PutStatus o x s base len h b = h
+kind_unseen LeftPattern o x s base len h b = h
+kind_unseen RightPattern o x s base len h b = h
+kind_unseen (GetElement w) o x s base len h b = absurd h
+kind_unseen GetLine o x s base len h b = reached_unseen (item_of (aligned 16 x) base len) ReadLine (λ k. tt)
+kind_unseen (PutElement w) o x s base len h b = absurd h
+kind_unseen PutLine o x s base len h b = reached_unseen (item_of (aligned 16 x) base len) WriteLine (λ k. tt)
+kind_unseen AddScalar o x s base len h b = tt
+
+-- whether a word that may carry an operation is position-bound
+abbrev pub bound : Option Op → Bool
+bound o = option_map_or position_bound o false
+
+pub order_unseen : (w : Decoded) (g : List ℕ) (base len : ℕ) → bound w.op ≡ false → UnseenIn (order_of w g base len)
 unfolding order_of
-order_unseen w g base len h =
-    cases (is_absent (kind_of w.op)) w.stray
-    (order_in (kind_of w.op) (address_of g w.a w.b) (sum_of g w.a w.imm) base len)
-    (kind_unseen (kind_of w.op) (address_of g w.a w.b) (sum_of g w.a w.imm) base len (free_kind w.op h))
+order_unseen w g base len = cases w.op w.stray
   where
-    cases : (a b : Bool) (o : Order) → Unseen o → Unseen (pick a (Refuse NoInstruction) (pick b (Refuse Reserved) o))
-    cases true b o h = tt
-    cases false true o h = tt
-    cases false false o h = h
+    cases : (p : Option Op) (q : Bool) → bound p ≡ false
+        → UnseenIn (option_map_or (λ (o : Op). pick q (Err Reserved) (order_in (kind_of o) o (address_of g w.a w.b) (sum_of g w.a w.imm) base len)) p (Err NoInstruction))
+    cases None q h = tt
+    cases (Some o) true h = tt
+    cases (Some o) false h = kind_unseen (kind_of o) o (address_of g w.a w.b) (sum_of g w.a w.imm) base len (free_kind o h) h
 
 -- a word of code with no position-bound instruction
 unbound : (a b : Bool) → pick a false b ≡ true → (a ≡ false) × (b ≡ true)
 unbound true b h = absurd (true≢false (sym h))
 unbound false b h = (refl, h)
 
-pub free_at : (code : List ℕ) (k : ℕ) → free code ≡ true → position_bound (op_of (get_or code k 0)) ≡ false
+pub free_at : (code : List ℕ) (k : ℕ) → free code ≡ true → bound (op_of (get_or code k 0)) ≡ false
 unfolding free op_of
 free_at [] k h = refl
-free_at (w ∷ ws) zero h = (unbound (position_bound (op_of w)) (free ws) h).0
-free_at (w ∷ ws) (suc k) h = free_at ws k (unbound (position_bound (op_of w)) (free ws) h).1
+free_at (w ∷ ws) zero h = (unbound (bound (op_of w)) (free ws) h).0
+free_at (w ∷ ws) (suc k) h = free_at ws k (unbound (bound (op_of w)) (free ws) h).1

@@ -17,6 +17,7 @@ use Rattle.packing.specs.Resized.{vector_of}
 use Rattle.moves.specs.Shifted.{number}
 use Rattle.compute.specs.Computed.{computed}
 use Rattle.control.specs.Addresses.{or_zero, address_of, item_of, well_placed}
+use Rattle.std.specs.Prelude.{Some}
 use Rattle.control.specs.Orders.{order_of}
 use Rattle.flags.specs.Flags.{status_of, from_status, marked_of, recorded_of}
 use Rattle.effects.specs.Effects.{computed_of, flags_after}
@@ -26,7 +27,7 @@ use Rattle.laws.specs.Seen.{backwards, from, machine, alone, alone_reordered, sh
 use Rattle.laws.proofs.Bytes.{small, small_bytes}
 
 -- the words are one of each position-bound row
-pub listed : map op_of thirty_nine ≡ bound_in sections
+pub listed : map op_of thirty_nine ≡ map Some (bound_in sections)
 unfolding op_of
 listed = refl
 

@@ -34,6 +34,8 @@ use Rattle.machine.proofs.Machine.run.Reads as machine-run
 use Rattle.machine.proofs.Machine.step.Kinds as machine-step-kinds
 use Rattle.machine.proofs.Machine.step.Reads as machine-step
 use Rattle.control.specs.declared.orders.Order.{Order}
+use Rattle.control.specs.declared.answers.Answer.{Answer}
+use Rattle.std.specs.Prelude.{Result}
 use Rattle.control.specs.Orders.{Controls}
 use Rattle.decode.specs.declared.Decoded.{Decoded}
 use Rattle.effects.specs.Effects.{Held}
@@ -53,7 +55,7 @@ text_of {after = after} p = after
 abbrev words_of : {bytes before : List ℕ} {r : Filled} {after : List ℕ} → Fills bytes before r after → List ℕ
 words_of {after = after} p = after
 
-abbrev general_of : {w : Decoded} {g : List ℕ} {base len : ℕ} {r : Order} {after : List ℕ} → Controls w g base len r after → List ℕ
+abbrev general_of : {w : Decoded} {g : List ℕ} {base len : ℕ} {r : Result Order Answer} {after : List ℕ} → Controls w g base len r after → List ℕ
 general_of {after = after} p = after
 
 -- the machine and the memory

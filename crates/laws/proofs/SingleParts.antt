@@ -40,14 +40,8 @@ use Rattle.lines.proofs.load_element.Kinds as lines-load-element-kinds
 use Rattle.lines.proofs.load_element.Reads as lines-load-element
 use Rattle.lines.proofs.vector.Kinds as lines-vector-kinds
 use Rattle.lines.proofs.vector.Reads as lines-vector
-use Rattle.control.proofs.answers.number.Kinds as control-number-kinds
-use Rattle.control.proofs.answers.number.Reads as control-number
 use Rattle.control.proofs.well_placed.Kinds as control-well-placed-kinds
 use Rattle.control.proofs.well_placed.Reads as control-well-placed
-use Rattle.control.proofs.orders.is_refusal.Kinds as control-is-refusal-kinds
-use Rattle.control.proofs.orders.is_refusal.Reads as control-is-refusal
-use Rattle.control.proofs.orders.refusal.Kinds as control-refusal-kinds
-use Rattle.control.proofs.orders.refusal.Reads as control-refusal
 use Rattle.lanes.proofs.at_lane.add_carry.Kinds as lanes-add-carry-kinds
 use Rattle.lanes.proofs.at_lane.add_carry.Reads as lanes-add-carry
 use Rattle.lanes.proofs.at_lane.add_sat_u.Kinds as lanes-add-sat-u-kinds
@@ -269,17 +263,8 @@ one_lines-load_element κs a x y s t p q = p ∙ sym q
 pub one_lines-vector : OneResult 1 lines-vector-kinds.ps lines-vector-kinds.r lines-vector.Post
 one_lines-vector κs a x y s t p q = p ∙ sym q
 
-pub one_control-number : OneResult 0 control-number-kinds.ps control-number-kinds.r control-number.Post
-one_control-number κs a x y s t p q = p ∙ sym q
-
 pub one_control-well_placed : OneResult 0 control-well-placed-kinds.ps control-well-placed-kinds.r control-well-placed.Post
 one_control-well_placed κs a x y s t p q = p ∙ sym q
-
-pub one_control-is_refusal : OneResult 0 control-is-refusal-kinds.ps control-is-refusal-kinds.r control-is-refusal.Post
-one_control-is_refusal κs a x y s t p q = p ∙ sym q
-
-pub one_control-refusal : OneResult 0 control-refusal-kinds.ps control-refusal-kinds.r control-refusal.Post
-one_control-refusal κs a x y s t p q = p ∙ sym q
 
 pub one_lanes-add_carry : OneResult 0 lanes-add-carry-kinds.ps lanes-add-carry-kinds.r lanes-add-carry.Post
 one_lanes-add_carry κs a x y s t p q = p ∙ sym q

@@ -1,16 +1,15 @@
--- What the kind of an operation tells of it: one alone is a word that carries no instruction, one alone is mtvscr, and only a vector instruction clips.
+-- What the kind of an operation tells of it: one alone is mtvscr, and only a vector instruction clips.
 -- Assumes nothing.
 use mathlib.Core.Path.{◌≡◌, refl}
 use mathlib.Core.Bool.{Bool, true, false, false≢true}
 use Rattle.encodings.specs.declared.ops.Op.{Op}
-use Rattle.encodings.specs.declared.ops.Op.TheVariants.{Unknown, AddMod, AddCarry, AddSat, SubMod, SubCarry, SubSat, Max, Min, Average, Rotate, ShiftLeft, ShiftRight, ShiftAlgebraic, ShiftWholeLeft, ShiftWholeRight, ShiftBytesLeft, ShiftBytesRight, And, AndNot, Or, Xor, Nor, FromStatus, ToStatus, MulOdd, MulEven, SumQuarter, SumHalf, SumAll, MergeHigh, MergeLow, Splat, SplatImmediate, PackMod, PackSat, UnpackHigh, UnpackLow, CompareEqual, CompareGreater, MulHighAdd, MulHighRoundAdd, MulLowAdd, MulSum, MulSumMixed, MulSumSat, Select, Permute, ShiftPair, LoadShiftLeft, LoadShiftRight, LoadElement, LoadLine, StoreElement, StoreLine, AddImmediate}
+use Rattle.encodings.specs.declared.ops.Op.TheVariants.{AddMod, AddCarry, AddSat, SubMod, SubCarry, SubSat, Max, Min, Average, Rotate, ShiftLeft, ShiftRight, ShiftAlgebraic, ShiftWholeLeft, ShiftWholeRight, ShiftBytesLeft, ShiftBytesRight, And, AndNot, Or, Xor, Nor, FromStatus, ToStatus, MulOdd, MulEven, SumQuarter, SumHalf, SumAll, MergeHigh, MergeLow, Splat, SplatImmediate, PackMod, PackSat, UnpackHigh, UnpackLow, CompareEqual, CompareGreater, MulHighAdd, MulHighRoundAdd, MulLowAdd, MulSum, MulSumMixed, MulSumSat, Select, Permute, ShiftPair, LoadShiftLeft, LoadShiftRight, LoadElement, LoadLine, StoreElement, StoreLine, AddImmediate}
 use Rattle.decode.specs.Traits.{can_clip}
 use Rattle.control.specs.declared.kinds.Kind.{Kind}
-use Rattle.control.specs.declared.kinds.Kind.TheVariants.{Absent, Vector, GetStatus, PutStatus, LeftPattern, RightPattern, GetElement, GetLine, PutElement, PutLine, AddScalar}
-use Rattle.control.specs.Kinds.{kind_of, is_absent}
+use Rattle.control.specs.declared.kinds.Kind.TheVariants.{Vector, GetStatus, PutStatus, LeftPattern, RightPattern, GetElement, GetLine, PutElement, PutLine, AddScalar}
+use Rattle.control.specs.Kinds.{kind_of}
 
 abbrev pub Told : Kind → Op → Type 0
-Told Absent op = (op ≡ Unknown) × (can_clip op ≡ false)
 Told Vector op = Unit {0}
 Told GetStatus op = can_clip op ≡ false
 Told PutStatus op = (op ≡ ToStatus) × (can_clip op ≡ false)
@@ -23,7 +22,6 @@ Told PutLine op = can_clip op ≡ false
 Told AddScalar op = can_clip op ≡ false
 
 pub told : (op : Op) → Told (kind_of op) op
-told Unknown = (refl, refl)
 told (AddMod w) = tt
 told AddCarry = tt
 told (AddSat w s) = tt
@@ -82,7 +80,6 @@ told AddImmediate = refl
 
 -- mtvscr's kind
 abbrev pub setting : Kind → Bool
-setting Absent = false
 setting Vector = false
 setting GetStatus = false
 setting PutStatus = true
@@ -98,26 +95,9 @@ pub status_kind : (op : Op) → setting (kind_of op) ≡ true → op ≡ ToStatu
 status_kind op = cases (kind_of op) (told op)
   where
     cases : (k : Kind) → Told k op → setting k ≡ true → op ≡ ToStatus
-    cases Absent s h = absurd (false≢true h)
     cases Vector s h = absurd (false≢true h)
     cases GetStatus s h = absurd (false≢true h)
     cases PutStatus s h = s.0
-    cases LeftPattern s h = absurd (false≢true h)
-    cases RightPattern s h = absurd (false≢true h)
-    cases (GetElement w) s h = absurd (false≢true h)
-    cases GetLine s h = absurd (false≢true h)
-    cases (PutElement w) s h = absurd (false≢true h)
-    cases PutLine s h = absurd (false≢true h)
-    cases AddScalar s h = absurd (false≢true h)
-
-pub absent_kind : (op : Op) → is_absent (kind_of op) ≡ true → op ≡ Unknown
-absent_kind op = cases (kind_of op) (told op)
-  where
-    cases : (k : Kind) → Told k op → is_absent k ≡ true → op ≡ Unknown
-    cases Absent s h = s.0
-    cases Vector s h = absurd (false≢true h)
-    cases GetStatus s h = absurd (false≢true h)
-    cases PutStatus s h = absurd (false≢true h)
     cases LeftPattern s h = absurd (false≢true h)
     cases RightPattern s h = absurd (false≢true h)
     cases (GetElement w) s h = absurd (false≢true h)

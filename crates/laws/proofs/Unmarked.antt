@@ -9,7 +9,7 @@ use Rattle.encodings.specs.declared.ops.Width.TheVariants as width
 use Rattle.encodings.specs.declared.ops.Sign.{Sign}
 use Rattle.encodings.specs.declared.ops.Sign.TheVariants.{Unsigned, Signed}
 use Rattle.encodings.specs.declared.ops.Op.{Op}
-use Rattle.encodings.specs.declared.ops.Op.TheVariants.{Unknown, AddMod, AddCarry, AddSat, SubMod, SubCarry, SubSat, Max, Min, Average, Rotate, ShiftLeft, ShiftRight, ShiftAlgebraic, ShiftWholeLeft, ShiftWholeRight, ShiftBytesLeft, ShiftBytesRight, And, AndNot, Or, Xor, Nor, FromStatus, ToStatus, MulOdd, MulEven, SumQuarter, SumHalf, SumAll, MergeHigh, MergeLow, Splat, SplatImmediate, PackMod, PackSat, UnpackHigh, UnpackLow, CompareEqual, CompareGreater, MulHighAdd, MulHighRoundAdd, MulLowAdd, MulSum, MulSumMixed, MulSumSat, Select, Permute, ShiftPair, LoadShiftLeft, LoadShiftRight, LoadElement, LoadLine, StoreElement, StoreLine, AddImmediate}
+use Rattle.encodings.specs.declared.ops.Op.TheVariants.{AddMod, AddCarry, AddSat, SubMod, SubCarry, SubSat, Max, Min, Average, Rotate, ShiftLeft, ShiftRight, ShiftAlgebraic, ShiftWholeLeft, ShiftWholeRight, ShiftBytesLeft, ShiftBytesRight, And, AndNot, Or, Xor, Nor, FromStatus, ToStatus, MulOdd, MulEven, SumQuarter, SumHalf, SumAll, MergeHigh, MergeLow, Splat, SplatImmediate, PackMod, PackSat, UnpackHigh, UnpackLow, CompareEqual, CompareGreater, MulHighAdd, MulHighRoundAdd, MulLowAdd, MulSum, MulSumMixed, MulSumSat, Select, Permute, ShiftPair, LoadShiftLeft, LoadShiftRight, LoadElement, LoadLine, StoreElement, StoreLine, AddImmediate}
 use Rattle.decode.specs.Traits.{can_clip}
 use Rattle.lanes.specs.declared.Op as lane_op
 use Rattle.lanes.specs.declared.Op.TheVariants as lane
@@ -54,7 +54,6 @@ low width.Word b = refl
 
 pub unmarked : (op : Op) (a b c : List ℕ) (i n : ℕ) → can_clip op ≡ false → (computed op a b c i n).marks ≡ 0
 unfolding computed
-unmarked Unknown a b c i n e = refl
 unmarked (AddMod w) a b c i n e = applied_unmarked (size_of w) lane.AddModulo refl a b b
 unmarked AddCarry a b c i n e = applied_unmarked Word lane.AddCarry refl a b b
 unmarked (AddSat w s) a b c i n e = absurd (true≢false e)

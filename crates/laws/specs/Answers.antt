@@ -1,11 +1,11 @@
 -- THE ANSWERS: document 01, "Numbers the run gives back": the case of each, in words that need no run. Assumes nothing.
-use Rattle.std.specs.Prelude.{ℕ, ◌+◌, ◌-◌, ◌%◌, ◌^◌, ◌≤◌, ◌<◌, ◌≡◌, true, false, List, ◌⊎◌, length}
+use Rattle.std.specs.Prelude.{ℕ, ◌+◌, ◌-◌, ◌%◌, ◌^◌, ◌≤◌, ◌<◌, ◌≡◌, true, false, List, ◌⊎◌, length, Some, None}
 use Rattle.decode.specs.declared.Decoded.{Decoded}
-use Rattle.encodings.specs.declared.ops.Op.TheVariants.{Unknown}
+use Rattle.encodings.specs.declared.ops.Op.{Op}
 use Rattle.control.specs.declared.answers.Answer.{Answer}
 use Rattle.control.specs.declared.answers.Answer.TheVariants.{Done, Spent, Misplaced, LongCode, BadStart, NoInstruction, Reserved, Outside}
 use Rattle.control.specs.declared.kinds.Kind.{Kind}
-use Rattle.control.specs.declared.kinds.Kind.TheVariants.{Absent, Vector, GetStatus, PutStatus, LeftPattern, RightPattern, GetElement, GetLine, PutElement, PutLine, AddScalar}
+use Rattle.control.specs.declared.kinds.Kind.TheVariants.{Vector, GetStatus, PutStatus, LeftPattern, RightPattern, GetElement, GetLine, PutElement, PutLine, AddScalar}
 use Rattle.control.specs.Addresses.{address_of, bytes_of, aligned}
 use Rattle.control.specs.Kinds.{kind_of}
 use Rattle.machine.specs.declared.Machine.{Machine}
@@ -25,7 +25,6 @@ Beyond e base len = (e < base) ⊎ (base + len ≤ e)
 
 -- a word of the kind names an item outside the memory: x is the address (rA|0) + rB, and the item is where its low bits are cleared
 abbrev pub Misses : Kind → ℕ → ℕ → ℕ → Type 0
-Misses Absent x base len = ⊥
 Misses Vector x base len = ⊥
 Misses GetStatus x base len = ⊥
 Misses PutStatus x base len = ⊥
@@ -44,9 +43,9 @@ Refused Spent w g base len = ⊥
 Refused Misplaced w g base len = ⊥
 Refused LongCode w g base len = ⊥
 Refused BadStart w g base len = ⊥
-Refused NoInstruction w g base len = w.op ≡ Unknown
-Refused Reserved w g base len = (w.op ≡ Unknown → ⊥) × (w.stray ≡ true)
-Refused Outside w g base len = (w.op ≡ Unknown → ⊥) × (w.stray ≡ false) × Misses (kind_of w.op) (address_of g w.a w.b) base len
+Refused NoInstruction w g base len = w.op ≡ None
+Refused Reserved w g base len = (o : Op) × (w.op ≡ Some o) × (w.stray ≡ true)
+Refused Outside w g base len = (o : Op) × (w.op ≡ Some o) × (w.stray ≡ false) × Misses (kind_of o) (address_of g w.a w.b) base len
 
 -- a run of at most n words from s completes some words and then ends with the answer
 pub record Comes (code : List ℕ) (base n : ℕ) (s : State) (a : Answer) : Type 0 where

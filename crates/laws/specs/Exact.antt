@@ -1,12 +1,12 @@
 -- EVERY EXACT RESULT IN RANGE: for each instruction, what document 01, "Lane rules", asks before SAT stays as it was. Assumes nothing.
-use Rattle.std.specs.Prelude.{ℕ, ◌<◌, ◌^◌, ◌≡◌, false, List, ℤ, ◌+ℤ◌}
+use Rattle.std.specs.Prelude.{ℕ, ◌<◌, ◌^◌, ◌≡◌, false, List, ℤ, ◌+ℤ◌, Some}
 use Rattle.decode.specs.declared.Decoded.{Decoded}
 use Rattle.encodings.specs.declared.ops.Width.{Width}
 use Rattle.encodings.specs.declared.ops.Width.TheVariants as width
 use Rattle.encodings.specs.declared.ops.Sign.{Sign}
 use Rattle.encodings.specs.declared.ops.Sign.TheVariants.{Unsigned, Signed}
 use Rattle.encodings.specs.declared.ops.Op.{Op}
-use Rattle.encodings.specs.declared.ops.Op.TheVariants.{Unknown, AddMod, AddCarry, AddSat, SubMod, SubCarry, SubSat, Max, Min, Average, Rotate, ShiftLeft, ShiftRight, ShiftAlgebraic, ShiftWholeLeft, ShiftWholeRight, ShiftBytesLeft, ShiftBytesRight, And, AndNot, Or, Xor, Nor, FromStatus, ToStatus, MulOdd, MulEven, SumQuarter, SumHalf, SumAll, MergeHigh, MergeLow, Splat, SplatImmediate, PackMod, PackSat, UnpackHigh, UnpackLow, CompareEqual, CompareGreater, MulHighAdd, MulHighRoundAdd, MulLowAdd, MulSum, MulSumMixed, MulSumSat, Select, Permute, ShiftPair, LoadShiftLeft, LoadShiftRight, LoadElement, LoadLine, StoreElement, StoreLine, AddImmediate}
+use Rattle.encodings.specs.declared.ops.Op.TheVariants.{AddMod, AddCarry, AddSat, SubMod, SubCarry, SubSat, Max, Min, Average, Rotate, ShiftLeft, ShiftRight, ShiftAlgebraic, ShiftWholeLeft, ShiftWholeRight, ShiftBytesLeft, ShiftBytesRight, And, AndNot, Or, Xor, Nor, FromStatus, ToStatus, MulOdd, MulEven, SumQuarter, SumHalf, SumAll, MergeHigh, MergeLow, Splat, SplatImmediate, PackMod, PackSat, UnpackHigh, UnpackLow, CompareEqual, CompareGreater, MulHighAdd, MulHighRoundAdd, MulLowAdd, MulSum, MulSumMixed, MulSumSat, Select, Permute, ShiftPair, LoadShiftLeft, LoadShiftRight, LoadElement, LoadLine, StoreElement, StoreLine, AddImmediate}
 use Rattle.lanes.specs.declared.Lane.{Lane}
 use Rattle.lanes.specs.declared.Op as lane_op
 use Rattle.lanes.specs.declared.Op.TheVariants as lane
@@ -55,7 +55,6 @@ PacksFit width.Word Signed Signed a b = LanesFitIn Word Half signed sat_s a b
 
 -- of each operation: of the twenty-seven there is something to ask, and of the others nothing
 abbrev pub InRange : Op → List ℕ → List ℕ → List ℕ → Type 0
-InRange Unknown a b c = Unit {0}
 InRange (AddMod w) a b c = Unit {0}
 InRange AddCarry a b c = Unit {0}
 InRange (AddSat w s) a b c = LanesFit (size_of w) (by_sign s lane.AddSatU lane.AddSatS) a b b
@@ -114,5 +113,5 @@ InRange AddImmediate a b c = Unit {0}
 
 -- SAT is off after a completed word: mtvscr wrote a zero; or it was off, and every exact result was in range
 pub record Off (w : Decoded) (m : Machine) : Type 0 where
-  pub written : w.op ≡ ToStatus → bit127 (register m.v w.b) ≡ false
-  pub other : (w.op ≡ ToStatus → ⊥) → (m.sat ≡ false) × InRange w.op (register m.v w.a) (register m.v w.b) (register m.v w.c)
+  pub written : w.op ≡ Some ToStatus → bit127 (register m.v w.b) ≡ false
+  pub other : (op : Op) → w.op ≡ Some op → (op ≡ ToStatus → ⊥) → (m.sat ≡ false) × InRange op (register m.v w.a) (register m.v w.b) (register m.v w.c)

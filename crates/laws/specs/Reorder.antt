@@ -1,6 +1,7 @@
 -- DEMAND 3: the four words of every line of sixteen bytes in another order, in the vectors and in the memory, and the code that does not see it.
 -- A reordering p is `Order p` of lanes: place j has the word that was at place p j, and each word has a place. Assumes nothing.
 use Rattle.std.specs.Prelude.{ℕ, zero, suc, ◌/◌, ◌≡◌, Bool, true, false, List, [], ◌∷◌, ◌++◌, length, take, drop}
+use Rattle.std.specs.Option.{option_map_or}
 use Rattle.encodings.specs.Bits.{pick}
 use Rattle.encodings.specs.Encodings.{op_of}
 use Rattle.decode.specs.Traits.{position_bound}
@@ -28,7 +29,7 @@ reordered_out p o = record { number = o.number; count = o.count; place = o.place
 -- code with none of the thirty-nine of document 01, "Position-bound instructions"
 unfoldable pub free : List ℕ → Bool
 free [] = true
-free (w ∷ ws) = pick (position_bound (op_of w)) false (free ws)
+free (w ∷ ws) = pick (option_map_or position_bound (op_of w) false) false (free ws)
 
 -- what the machine's arrays and the memory are: 32 vectors of sixteen bytes, and every element of both a byte
 pub record Whole (v mem : List ℕ) : Type 0 where

@@ -1,5 +1,5 @@
 -- What the laws of SAT speak of: document 01, "Lane rules", the results that are clipped and mtvscr. Assumes nothing.
-use Rattle.std.specs.Prelude.{ℕ, ◌+◌, ◌*◌, ◌%◌, ◌^◌, ◌≡◌, Bool, List, get_or, eqb}
+use Rattle.std.specs.Prelude.{ℕ, ◌+◌, ◌*◌, ◌%◌, ◌^◌, ◌≡◌, Bool, List, get_or, eqb, Some}
 use Rattle.encodings.specs.declared.ops.Op.TheVariants.{ToStatus}
 use Rattle.encodings.specs.Encodings.{op_of}
 use Rattle.lanes.specs.declared.Lane.{Lane}
@@ -14,7 +14,7 @@ bit127 x = eqb (get_or x 15 0 % 2) 1
 
 -- no word of the code is mtvscr
 abbrev pub NoStatus : List ℕ → Type 0
-NoStatus code = (k : ℕ) → op_of (get_or code k 0) ≡ ToStatus → ⊥
+NoStatus code = (k : ℕ) → op_of (get_or code k 0) ≡ Some ToStatus → ⊥
 
 -- what an operation gives at lane r of word j of three vectors
 abbrev pub lane_in : Size → Op → List ℕ → List ℕ → List ℕ → ℕ → ℕ → Lane
