@@ -8,14 +8,14 @@ use Rattle.machine.specs.Runs.{Out}
 use Rattle.host.specs.declared.CardReport.{CardReport}
 use Rattle.host.specs.Reports.{Reports}
 
-abbrev report_of : ℕ → ℕ → ℕ → CardReport
-report_of answer count place = record { answer = answer; count = count; place = place }
+abbrev as_report : ℕ → ℕ → ℕ → CardReport
+as_report answer count place = record { answer = answer; count = count; place = place }
 
-told : {o : Out} {r : CardReport} {m : Machine} {mem : List ℕ} → Reports o r m mem → r ≡ report_of o.number o.count o.place
+told : {o : Out} {r : CardReport} {m : Machine} {mem : List ℕ} → Reports o r m mem → r ≡ as_report o.number o.count o.place
 told {o} {r} p =
-    ap (λ (x : ℕ). report_of x r.count r.place) p.answer
-    ∙ ap (λ (x : ℕ). report_of o.number x r.place) p.count
-    ∙ ap (λ (x : ℕ). report_of o.number o.count x) p.place
+    ap (λ (x : ℕ). as_report x r.count r.place) p.answer
+    ∙ ap (λ (x : ℕ). as_report o.number x r.place) p.count
+    ∙ ap (λ (x : ℕ). as_report o.number o.count x) p.place
 
 pub one_outcome : {o : Out} {r r' : CardReport} {m m' : Machine} {mem mem' : List ℕ} → Reports o r m mem → Reports o r' m' mem' → (r ≡ r') × (m ≡ m') × (mem ≡ mem')
 one_outcome p q = (told p ∙ sym (told q), p.m ∙ sym q.m, p.mem ∙ sym q.mem)

@@ -2,8 +2,14 @@
 -- number of document 01's table in place of the answer. Assumes nothing.
 use Rattle.std.specs.Prelude.{ℕ, ◌≡◌, List}
 use Rattle.machine.specs.declared.Machine.{Machine}
+use Rattle.control.specs.Answers.{number_of}
+use Rattle.machine.specs.declared.walk.Report.{Report}
 use Rattle.machine.specs.Runs.{Out}
 use Rattle.host.specs.declared.CardReport.{CardReport}
+
+-- a report of the machine, with the number in place of the answer
+abbrev pub report_of : Report → CardReport
+report_of r = record { answer = number_of r.answer; count = r.count; place = r.place }
 
 pub record Reports (o : Out) (r : CardReport) (machine : Machine) (memory : List ℕ) : Type 0 where
   pub answer : r.answer ≡ o.number

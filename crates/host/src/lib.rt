@@ -5,9 +5,9 @@
 ghost use Rattle.std.specs.Prelude.{◌≡◌};
 ghost use Rattle.machine.specs.Runs.{run_of};
 ghost use Rattle.states.specs.States.{at_rest};
-ghost use Rattle.host.specs.Reports.{Reports};
+ghost use Rattle.host.specs.Reports.{report_of, Reports};
 
-use machine::{Machine, number};
+use machine::{Machine, Report};
 use states::at_rest;
 
 // How a run ended, by the number of its answer; the words completed; the place of the next word.
@@ -19,11 +19,16 @@ pub struct CardReport {
     pub place: u32,
 }
 
-// What a run leaves.
-#[derive(Clone, Copy)]
-struct Left {
-    report: CardReport,
-    m: Machine,
+impl From<Report> for CardReport {
+    ghost from_gives = { λ r c. c ≡ report_of r };
+
+    fn from(r: Report) -> CardReport {
+        CardReport {
+            answer: u32::from(r.answer),
+            count: r.count,
+            place: r.place,
+        }
+    }
 }
 
 // A machine with all registers and bits zero.
@@ -33,25 +38,6 @@ pub extern "C" fn card_new() -> Machine
     ensures { result ≡ at_rest }
 {
     at_rest()
-}
-
-// The run by value, with the number in place of the answer.
-fn run(m: Machine, code: &[u32], mem: &mut [u8], base: u32, place: u32, allowance: u32) -> Left
-    ensures { Reports (run_of code.now mem.old base place allowance m) result.report result.m mem.new }
-{
-    let r = m.run(code, mem, base, place, allowance);
-    let ended = r.report;
-    let answer = ended.answer;
-    let after = r.m;
-    let report = CardReport {
-        answer: number(answer),
-        count: ended.count,
-        place: ended.place,
-    };
-    Left {
-        report: report,
-        m: after,
-    }
 }
 
 // The words from a place on, as far as the allowance goes, over a memory whose first byte stands at base.
@@ -66,9 +52,9 @@ pub extern "C" fn card_run(
 ) -> CardReport
     ensures { Reports (run_of code.now mem.old base place allowance m.old) result m.new mem.new }
 {
-    let r = run(*m, code, mem, base, place, allowance);
+    let r = m.run(code, mem, base, place, allowance);
     *m = r.m;
-    r.report
+    CardReport::from(r.report)
 }
 
 // A step is a run with allowance 1.
