@@ -1,5 +1,5 @@
 -- From a lane to the vector, once for every operation and every width: what agrees with an operation at each lane makes the vector that the operation makes. Assumes nothing.
-use Rattle.std.proofs.Common.{◌≡◌, ℕ, zero, suc, ◌+◌, ◌*◌, ◌/◌, ◌%◌, ◌^◌, ◌<◌, ◌≤◌, length, Bool, List, [], ◌∷◌, map, refl, ap, ◌∙◌, arith}
+use Rattle.std.proofs.Common.{◌≡◌, ℕ, zero, suc, ◌+◌, ◌*◌, ◌/◌, ◌%◌, ◌^◌, ◌<◌, ◌≤◌, length, Bool, false, List, [], ◌∷◌, map, refl, ap, ◌∙◌, arith}
 use lib.ListN.{get_or}
 use lib.Lanes.{mask_l}
 use lib.Pow.{pow_mono}
@@ -13,7 +13,7 @@ use Rattle.lanes.specs.declared.Size.TheVariants.{Byte, Half, Word}
 use Rattle.lanes.specs.Numbers.{bytes_in, number_at}
 use Rattle.lanes.specs.Operations.{lane_op, width_of, word_op, applied}
 use Rattle.lanes.specs.Order.{Bytes}
-use Rattle.lanes.specs.Placed.{lanes_from, lanes_of, placed}
+use Rattle.lanes.specs.Placed.{Holds, laid, lanes_from, lanes_of, placed}
 use Rattle.lanes.specs.Words.{MarkedWord, none, word_from, bytes_of, push, joined}
 use Rattle.lanes.proofs.Below.{below}
 use Rattle.lanes.proofs.Sizes.{width_of_lem}
@@ -28,7 +28,10 @@ zip3 f (x ∷ xs) (y ∷ ys) (z ∷ zs) = f x y z ∷ zip3 f xs ys zs
 abbrev pub modulus : Size → ℕ
 modulus s = 2 ^ width_of s
 
--- a lane that code computes, with its mark; and that such lanes are those of the operation
+-- a lane that code computes, without a mark and with one; and that such lanes are those of the operation
+abbrev pub value : (ℕ → ℕ → ℕ → ℕ) → ℕ → ℕ → ℕ → Lane
+value g x y z = record { value = g x y z; clipped = false }
+
 abbrev pub lane : (ℕ → ℕ → ℕ → ℕ) → (ℕ → ℕ → ℕ → Bool) → ℕ → ℕ → ℕ → Lane
 lane g k x y z = record { value = g x y z; clipped = k x y z }
 
@@ -195,3 +198,28 @@ module _ (op : Op) (a b c : List ℕ) (ha : Bytes a) (hb : Bytes b) (hc : Bytes 
       length-le Byte = omega arith
       length-le Half = omega arith
       length-le Word = omega arith
+
+-- f is the operation at a lane
+pub record Law (s : Size) (op : Op) (f : ℕ → ℕ → ℕ → Lane) : Type 0 where
+  pub agrees : Agrees s op f
+
+-- so at the lanes that code has read
+module _ {s : Size} {op : Op} {f : ℕ → ℕ → ℕ → Lane} (law : Law s op f) {a b c x y z : List ℕ} (ha : Holds s a x) (hb : Holds s b y) (hc : Holds s c z) where
+  pub placed_three : placed s (zip3 f (lanes_of s a) (lanes_of s b) (lanes_of s c)) ≡ applied s op a b c
+  placed_three = applied-is op a b c ha.bytes hb.bytes hc.bytes s f law.agrees
+
+  pub on_three : laid s (map (λ l. l.value) (zip3 f (lanes_of s a) (lanes_of s b) (lanes_of s c))) ≡ (applied s op a b c).bytes
+  on_three = ap (λ m. m.bytes) placed_three
+
+  pub marked_on_three : (let r = placed s (zip3 f (lanes_of s a) (lanes_of s b) (lanes_of s c)) in record { bytes = r.bytes; marks = r.marks % 2 ^ 64 % 2 ^ 32 }) ≡ applied s op a b c
+  marked_on_three = marked-is op a b c ha.bytes hb.bytes hc.bytes s f law.agrees
+
+module _ {s : Size} {op : Op} {f : ℕ → ℕ → ℕ → Lane} (law : Law s op f) {a b x y : List ℕ} (ha : Holds s a x) (hb : Holds s b y) where
+  pub placed_two : placed s (zip3 f (lanes_of s a) (lanes_of s b) (lanes_of s b)) ≡ applied s op a b b
+  placed_two = placed_three law ha hb hb
+
+  pub on_two : laid s (map (λ l. l.value) (zip3 f (lanes_of s a) (lanes_of s b) (lanes_of s b))) ≡ (applied s op a b b).bytes
+  on_two = on_three law ha hb hb
+
+  pub marked_on_two : (let r = placed s (zip3 f (lanes_of s a) (lanes_of s b) (lanes_of s b)) in record { bytes = r.bytes; marks = r.marks % 2 ^ 64 % 2 ^ 32 }) ≡ applied s op a b b
+  marked_on_two = marked_on_three law ha hb hb

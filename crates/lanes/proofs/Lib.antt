@@ -11,3 +11,4 @@ pub mod Applied
 pub mod Sizes
 pub mod Recast
 pub mod Bridge
+pub mod Biased
