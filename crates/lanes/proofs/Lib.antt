@@ -9,3 +9,6 @@ pub mod Unclipped
 pub mod AllTrue
 pub mod Applied
 pub mod Sizes
+pub mod Recast
+pub mod Bridge
+pub mod Biased

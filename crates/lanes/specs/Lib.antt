@@ -5,3 +5,4 @@ pub mod Operations
 pub mod Summary
 pub mod Order
 pub mod Width
+pub mod Placed

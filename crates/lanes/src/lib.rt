@@ -1,5 +1,10 @@
-// What an operation does to a lane of 8, 16 or 32 bits: the definitions, and each operation at one lane.
+// What an operation does to a lane of 8, 16 or 32 bits: the definitions, and the lanes of a vector at the width of the register.
 #![tactic(auto)]
+
+ghost use Rattle.std.specs.Prelude.{◌≡◌};
+ghost use Rattle.lanes.specs.Placed.{Holds, laid};
+
+use std::simd::prelude::*;
 
 pub mod at_lane;
 pub mod exact;
@@ -81,4 +86,53 @@ pub struct Operands {
 pub struct Marked {
     pub bytes: [u8; 16],
     pub marks: u32,
+}
+
+// The places of the bytes where those of each half, and of each word, are turned round.
+const HALVES_TURNED: [usize; 16] = [1, 0, 3, 2, 5, 4, 7, 6, 9, 8, 11, 10, 13, 12, 15, 14];
+
+const WORDS_TURNED: [usize; 16] = [3, 2, 1, 0, 7, 6, 5, 4, 11, 10, 9, 8, 15, 14, 13, 12];
+
+// The lanes of a vector, each as an unsigned number; the first byte of a lane is its highest.
+#[inline(always)]
+pub fn bytes(v: [u8; 16]) -> u8x16
+    ensures { Holds Size.Byte v result }
+{
+    u8x16::from_array(v)
+}
+
+#[inline(always)]
+pub fn halves(v: [u8; 16]) -> u16x8
+    ensures { Holds Size.Half v result }
+{
+    u16x8::from_le_bytes(u8x16::from_array(v).swizzle(HALVES_TURNED))
+}
+
+#[inline(always)]
+pub fn words(v: [u8; 16]) -> u32x4
+    ensures { Holds Size.Word v result }
+{
+    u32x4::from_le_bytes(u8x16::from_array(v).swizzle(WORDS_TURNED))
+}
+
+// The vector that has such lanes.
+#[inline(always)]
+pub fn of_bytes(v: u8x16) -> [u8; 16]
+    ensures { result ≡ laid Size.Byte v }
+{
+    v.to_array()
+}
+
+#[inline(always)]
+pub fn of_halves(v: u16x8) -> [u8; 16]
+    ensures { result ≡ laid Size.Half v }
+{
+    v.to_le_bytes().swizzle(HALVES_TURNED).to_array()
+}
+
+#[inline(always)]
+pub fn of_words(v: u32x4) -> [u8; 16]
+    ensures { result ≡ laid Size.Word v }
+{
+    v.to_le_bytes().swizzle(WORDS_TURNED).to_array()
 }

@@ -1,87 +1,44 @@
--- Shifts of the whole register are shifts of each two neighbouring bytes. Assumes nothing.
-use mathlib.Core.Path.{◌≡◌, refl, sym, ap, ◌∙◌}
-use mathlib.Core.List.{List, [], ◌∷◌, ◌++◌}
-use Prim.Native.Nat.{ℕ, zero, suc, ◌+◌, ◌-◌, ◌*◌, ◌/◌, ◌%◌, ◌^◌, ◌<◌, ◌≤◌}
-use native.Mathlib.Nat.{add-zero, add-suc, pow-succ', div-one, div-div-eq-div-mul, mul_comm, mul_assoc, mul-div_cancel, mul-div-mul_right, add-mul-div_left, add-mul-mod_self_right}
-use native.Mathlib.Omega.{arith}
-use lib.ListN.{get_or}
-use lib.Pow.{pow_pos, pow-add}
-use Rattle.groups.proofs.Places.{Fit}
-use Rattle.groups.proofs.Same.{◌&◌}
+-- The whole register as one number of 128 bits: as it is read, and as it is written. Assumes nothing.
+use Rattle.std.proofs.Common.{◌≡◌, ℕ, zero, suc, ◌+◌, ◌-◌, ◌*◌, ◌/◌, ◌%◌, ◌^◌, ◌<◌, ◌≤◌, List, ap, ◌∙◌, sym, arith}
+use Rattle.std.proofs.Math.Nat.{div-one, one-le-pow, pow-suc, div-div-eq-div-mul, mod-add-div, add-mul-div_left, add-mul-mod_self_left, mul_assoc}
+use mathlib.Core.Path.{fun_ext}
+use lib.Pow.{pow-add}
+use mir.Syntax.{w128}
+use Rattle.std.specs.Int.{from_be_bytes}
 use Rattle.moves.specs.Chosen.{places}
-use Rattle.moves.specs.Shifted.{number, bytes_of, between, window}
+use Rattle.moves.specs.Shifted.{number, bytes_of}
 
--- the two counts of a byte
-parts : (s : ℕ) → s ≤ 8 → 2 ^ s * 2 ^ (8 - s) ≡ 256
-parts s h =
-    let e : s + (8 - s) ≡ 8 = omega arith in
-    sym (pow-add 2 s (8 - s)) ∙ ap (λ (n : ℕ). 2 ^ n) e
+pub number-is : (v : List ℕ) → from_be_bytes w128 v ≡ number 16 v
+unfolding number
+number-is v = omega arith
 
--- where p and q are such counts: what stands before two bytes does not reach their last eight bits
-module _ (p q : ℕ) (some : 0 < p) (e : p * q ≡ 256) where
-  local : (t y : ℕ) → (t * 65536 + y) / p % 256 ≡ y / p % 256
-  local t y =
-      let f : p * (q * (t * 256)) ≡ 256 * (t * 256) = sym (mul_assoc p q (t * 256)) ∙ ap (λ (n : ℕ). n * (t * 256)) e in
-      let g : t * 65536 + y ≡ y + p * (q * (t * 256)) = omega arith in
-      rw (g, add-mul-div_left y (q * (t * 256)) some, ← mul_assoc q t 256) (add-mul-mod_self_right (y / p) (q * t) 256)
+module _ (x : ℕ) where
+  -- the digits of a number of 128 bits that is given by its halves, the highest first
+  abbrev over : ℕ → ℕ → ℕ
+  over zero y = y
+  over (suc k) y = over k y / 256
 
-  -- the last byte has nothing after it
-  alone : (t x : ℕ) → (x * 256 + 0) / p % 256 ≡ (t * 256 + x) * q / 1 % 256
-  alone t x =
-      let f : t * 65536 + (x * 256 + 0) ≡ (t * 256 + x) * 256 = omega arith in
-      let g : (t * 256 + x) * 256 ≡ (t * 256 + x) * q * p = ap (λ (n : ℕ). (t * 256 + x) * n) (sym e ∙ mul_comm p q) ∙ sym (mul_assoc (t * 256 + x) q p) in
-      sym (local t (x * 256 + 0)) ∙ rw (f ∙ g, mul-div_cancel ((t * 256 + x) * q) some, div-one ((t * 256 + x) * q))
+  over-is : (k : ℕ) → over k x ≡ x / 256 ^ k
+  over-is zero = sym (div-one x)
+  over-is (suc k) = ap (λ (n : ℕ). n / 256) (over-is k) ∙ div-div-eq-div-mul x (256 ^ k) 256 ∙ ap (λ (n : ℕ). x / n) (sym (pow-suc 256 k))
 
-  -- to multiply by p is to divide by q, a byte further on
-  further : (x k : ℕ) → x * p / (k * 256) ≡ x / q / k
-  further x k =
-      let f : k * 256 ≡ k * q * p = ap (λ (n : ℕ). k * n) (sym e ∙ mul_comm p q) ∙ sym (mul_assoc k q p) in
-      rw (f, mul-div-mul_right x (k * q) some, mul_comm k q) (sym (div-div-eq-div-mul x q k))
+  pub digits-are : places 16 0 (λ i. over (15 - i) (x % 2 ^ 64 + 2 ^ 64 * (x / 2 ^ 64 + 0)) % 256) ≡ bytes_of x
+  digits-are =
+      let e : x % 2 ^ 64 + 2 ^ 64 * (x / 2 ^ 64 + 0) ≡ x = omega arith in
+      ap (λ (y : ℕ). places 16 0 (λ i. over (15 - i) y % 256)) e ∙ ap (places 16 0) (fun_ext (λ (i : ℕ). ap (λ (n : ℕ). n % 256) (over-is (15 - i))))
 
-module _ (v : List ℕ) (fits : Fit v) where
-  -- the number without its last k bytes
-  prefix : (n k : ℕ) → number (n + k) v / 256 ^ k ≡ number n v
-  unfolding number
-  prefix n zero = rw (add-zero n) (div-one (number n v))
-  prefix n (suc k) =
-      let e : number (n + suc k) v ≡ number (n + k) v * 256 + get_or v (n + k) 0 = rw (add-suc n k) in
-      let f : (number (n + k) v * 256 + get_or v (n + k) 0) / 256 ≡ number (n + k) v = omega (arith, (fits (n + k)).fits) in
-      rw (e, pow-succ' 256 k, ← div-div-eq-div-mul (number (n + k) v * 256 + get_or v (n + k) 0) 256 (256 ^ k), f) (prefix n k)
+  -- a byte is the same without what is beyond the last 128 bits
+  same_byte : (p r : ℕ) → 0 < p → p * (256 * r) ≡ 2 ^ 128 → x % 2 ^ 128 / p % 256 ≡ x / p % 256
+  same_byte p r some e =
+      let q : ℕ = x / 2 ^ 128 in
+      let f : 2 ^ 128 * q ≡ p * (256 * (r * q)) = ap (λ (n : ℕ). n * q) (sym e) ∙ mul_assoc p (256 * r) q ∙ ap (λ (n : ℕ). p * n) (mul_assoc 256 r q) in
+      let d : x ≡ x % 2 ^ 128 + p * (256 * (r * q)) = sym (mod-add-div x (2 ^ 128)) ∙ ap (λ (n : ℕ). x % 2 ^ 128 + n) f in
+      sym (ap (λ (n : ℕ). n / p % 256) d ∙ ap (λ (n : ℕ). n % 256) (add-mul-div_left (x % 2 ^ 128) (256 * (r * q)) some) ∙ add-mul-mod_self_left (x % 2 ^ 128 / p) 256 (r * q))
 
-  -- byte n of the number over p, with k bytes after it; x is the byte before it, and t what is before that
-  module _ (p q : ℕ) (some : 0 < p) (e : p * q ≡ 256) where
-    step : (n k t x : ℕ) → number n v ≡ t * 256 + x → (x * 256 + get_or v n 0) / p % 256 ≡ number (suc n + k) v / p / 256 ^ k % 256
-    unfolding number
-    step n k t x f =
-        let all : ℕ = number (suc n + k) v in
-        let swapped : all / p / 256 ^ k ≡ all / 256 ^ k / p = div-div-eq-div-mul all p (256 ^ k) ∙ ap (λ (m : ℕ). all / m) (mul_comm p (256 ^ k)) ∙ sym (div-div-eq-div-mul all (256 ^ k) p) in
-        let g : (t * 256 + x) * 256 + get_or v n 0 ≡ t * 65536 + (x * 256 + get_or v n 0) = omega arith in
-        rw (swapped, prefix (suc n) k, f, g) (sym (local p q some e t (x * 256 + get_or v n 0)))
-
-  module _ (s : ℕ) (h : s ≤ 8) where
-    first : between 0 (get_or v 0 0) s ≡ number 16 v / 2 ^ s / 256 ^ 15 % 256
-    unfolding number
-    first = step (2 ^ s) (2 ^ (8 - s)) (pow_pos s) (parts s h) 0 15 0 0 refl
-
-    right_at : (n k : ℕ) → between (get_or v n 0) (get_or v (suc n) 0) s ≡ number (suc (suc n) + k) v / 2 ^ s / 256 ^ k % 256
-    unfolding number
-    right_at n k = step (2 ^ s) (2 ^ (8 - s)) (pow_pos s) (parts s h) (suc n) k (number n v) (get_or v n 0) refl
-
-    other : 2 ^ (8 - s) * 2 ^ s ≡ 256
-    other = mul_comm (2 ^ (8 - s)) (2 ^ s) ∙ parts s h
-
-    left_at : (n k : ℕ) → between (get_or v n 0) (get_or v (suc n) 0) (8 - s) ≡ number (suc (suc n) + k) v * 2 ^ s / (256 ^ k * 256) % 256
-    unfolding number
-    left_at n k =
-        rw (further (2 ^ s) (2 ^ (8 - s)) (pow_pos s) (parts s h) (number (suc (suc n) + k) v) (256 ^ k))
-        (step (2 ^ (8 - s)) (2 ^ s) (pow_pos (8 - s)) other (suc n) k (number n v) (get_or v n 0) refl)
-
-    last : between (get_or v 15 0) 0 (8 - s) ≡ number 16 v * 2 ^ s / 1 % 256
-    unfolding number
-    last = alone (2 ^ (8 - s)) (2 ^ s) (pow_pos (8 - s)) other (number 15 v) (get_or v 15 0)
-
-    pub right : window (0 ∷ places 16 0 (λ i. get_or v i 0)) s ≡ bytes_of (number 16 v / 2 ^ s)
-    right = first & right_at 0 14 & right_at 1 13 & right_at 2 12 & right_at 3 11 & right_at 4 10 & right_at 5 9 & right_at 6 8 & right_at 7 7 & right_at 8 6 & right_at 9 5 & right_at 10 4 & right_at 11 3 & right_at 12 2 & right_at 13 1 & right_at 14 0 & refl
-
-    pub left : window (places 16 0 (λ i. get_or v i 0) ++ 0 ∷ []) (8 - s) ≡ bytes_of (number 16 v * 2 ^ s)
-    left = left_at 0 14 & left_at 1 13 & left_at 2 12 & left_at 3 11 & left_at 4 10 & left_at 5 9 & left_at 6 8 & left_at 7 7 & left_at 8 6 & left_at 9 5 & left_at 10 4 & left_at 11 3 & left_at 12 2 & left_at 13 1 & left_at 14 0 & last & refl
+  pub last-are : bytes_of (x % 2 ^ 128) ≡ bytes_of x
+  last-are = ap (places 16 0) (fun_ext (λ (i : ℕ). same_byte (256 ^ (15 - i)) (256 ^ (15 - (15 - i))) (one-le-pow (15 - i) 256 (omega arith)) (parts (15 - i) (omega arith))))
+    where
+      parts : (k : ℕ) → k ≤ 15 → 256 ^ k * (256 * 256 ^ (15 - k)) ≡ 2 ^ 128
+      parts k h =
+          let e : k + (1 + (15 - k)) ≡ 16 = omega arith in
+          ap (λ (n : ℕ). 256 ^ k * n) (sym (pow-add 256 1 (15 - k))) ∙ sym (pow-add 256 k (1 + (15 - k))) ∙ ap (λ (n : ℕ). 256 ^ n) e

@@ -20,11 +20,3 @@ shifted_left a b = bytes_of (number 16 a * 2 ^ bits b)
 
 abbrev pub shifted_right : List ℕ → List ℕ → List ℕ
 shifted_right a b = bytes_of (number 16 a / 2 ^ bits b)
-
--- eight bits of two bytes, which end n bits before the end
-abbrev pub between : ℕ → ℕ → ℕ → ℕ
-between x y n = (x * 256 + y) / 2 ^ n % 256
-
--- the same at each two neighbours in v
-abbrev pub window : List ℕ → ℕ → List ℕ
-window v n = places 16 0 (λ i. between (get_or v i 0) (get_or v (i + 1) 0) n)

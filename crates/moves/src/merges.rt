@@ -1,87 +1,105 @@
-// Merges and splats: lanes that are chosen and not changed.
-ghost use Rattle.std.specs.Prelude.{◌≡◌};
+// Merges and splats: lanes that are chosen and not changed. `shuffle` takes its places as a constant, so each merge has its own list of them.
+ghost use Rattle.std.specs.Prelude.{◌≡◌, ◌+◌, ◌%◌, map, slice_index};
 ghost use Rattle.moves.specs.Chosen.{merged_high, merged_low, splat};
 
+use crate::permutes::named;
 use lanes::Size;
+use std::simd::prelude::*;
 
 pub fn vmrghb(a: [u8; 16], b: [u8; 16]) -> [u8; 16]
     ensures { result ≡ merged_high Size.Byte a b }
 {
-    [
-        a[0], b[0], a[1], b[1], a[2], b[2], a[3], b[3], a[4], b[4], a[5], b[5], a[6], b[6], a[7],
-        b[7],
-    ]
+    let x = u8x16::from_array(a);
+    let y = u8x16::from_array(b);
+    let v: u8x16 = x.shuffle(y, [0, 16, 1, 17, 2, 18, 3, 19, 4, 20, 5, 21, 6, 22, 7, 23]);
+    v.to_array()
 }
 
 pub fn vmrghh(a: [u8; 16], b: [u8; 16]) -> [u8; 16]
     ensures { result ≡ merged_high Size.Half a b }
 {
-    [
-        a[0], a[1], b[0], b[1], a[2], a[3], b[2], b[3], a[4], a[5], b[4], b[5], a[6], a[7], b[6],
-        b[7],
-    ]
+    let x = u8x16::from_array(a);
+    let y = u8x16::from_array(b);
+    let v: u8x16 = x.shuffle(y, [0, 1, 16, 17, 2, 3, 18, 19, 4, 5, 20, 21, 6, 7, 22, 23]);
+    v.to_array()
 }
 
 pub fn vmrghw(a: [u8; 16], b: [u8; 16]) -> [u8; 16]
     ensures { result ≡ merged_high Size.Word a b }
 {
-    [
-        a[0], a[1], a[2], a[3], b[0], b[1], b[2], b[3], a[4], a[5], a[6], a[7], b[4], b[5], b[6],
-        b[7],
-    ]
+    let x = u8x16::from_array(a);
+    let y = u8x16::from_array(b);
+    let v: u8x16 = x.shuffle(y, [0, 1, 2, 3, 16, 17, 18, 19, 4, 5, 6, 7, 20, 21, 22, 23]);
+    v.to_array()
 }
 
 pub fn vmrglb(a: [u8; 16], b: [u8; 16]) -> [u8; 16]
     ensures { result ≡ merged_low Size.Byte a b }
 {
-    [
-        a[8], b[8], a[9], b[9], a[10], b[10], a[11], b[11], a[12], b[12], a[13], b[13], a[14],
-        b[14], a[15], b[15],
-    ]
+    let x = u8x16::from_array(a);
+    let y = u8x16::from_array(b);
+    let v: u8x16 = x.shuffle(
+        y,
+        [8, 24, 9, 25, 10, 26, 11, 27, 12, 28, 13, 29, 14, 30, 15, 31],
+    );
+    v.to_array()
 }
 
 pub fn vmrglh(a: [u8; 16], b: [u8; 16]) -> [u8; 16]
     ensures { result ≡ merged_low Size.Half a b }
 {
-    [
-        a[8], a[9], b[8], b[9], a[10], a[11], b[10], b[11], a[12], a[13], b[12], b[13], a[14],
-        a[15], b[14], b[15],
-    ]
+    let x = u8x16::from_array(a);
+    let y = u8x16::from_array(b);
+    let v: u8x16 = x.shuffle(
+        y,
+        [8, 9, 24, 25, 10, 11, 26, 27, 12, 13, 28, 29, 14, 15, 30, 31],
+    );
+    v.to_array()
 }
 
 pub fn vmrglw(a: [u8; 16], b: [u8; 16]) -> [u8; 16]
     ensures { result ≡ merged_low Size.Word a b }
 {
-    [
-        a[8], a[9], a[10], a[11], b[8], b[9], b[10], b[11], a[12], a[13], a[14], a[15], b[12],
-        b[13], b[14], b[15],
-    ]
+    let x = u8x16::from_array(a);
+    let y = u8x16::from_array(b);
+    let v: u8x16 = x.shuffle(
+        y,
+        [8, 9, 10, 11, 24, 25, 26, 27, 12, 13, 14, 15, 28, 29, 30, 31],
+    );
+    v.to_array()
+}
+
+// Bytes of b from byte k on: `at` has the place of each byte of the result in its lane.
+#[inline(always)]
+fn repeated(b: [u8; 16], k: u8, at: [u8; 16]) -> [u8; 16]
+    ensures { result ≡ map (λ i. slice_index b ((k + i) % 16)) at }
+{
+    let v = u8x16::from_array(b);
+    named(v, u8x16::splat(k) + u8x16::from_array(at)).to_array()
 }
 
 pub fn vspltb(b: [u8; 16], lane: u8) -> [u8; 16]
     ensures { result ≡ splat Size.Byte b lane }
 {
-    let k = (lane % 16) as usize;
-    let x = b[k];
-    [x, x, x, x, x, x, x, x, x, x, x, x, x, x, x, x]
+    repeated(b, lane % 16, [0; 16])
 }
 
 pub fn vsplth(b: [u8; 16], lane: u8) -> [u8; 16]
     ensures { result ≡ splat Size.Half b lane }
 {
-    let k = 2 * ((lane % 8) as usize);
-    let x = b[k];
-    let y = b[k + 1];
-    [x, y, x, y, x, y, x, y, x, y, x, y, x, y, x, y]
+    repeated(
+        b,
+        lane % 8 * 2,
+        [0, 1, 0, 1, 0, 1, 0, 1, 0, 1, 0, 1, 0, 1, 0, 1],
+    )
 }
 
 pub fn vspltw(b: [u8; 16], lane: u8) -> [u8; 16]
     ensures { result ≡ splat Size.Word b lane }
 {
-    let k = 4 * ((lane % 4) as usize);
-    let x = b[k];
-    let y = b[k + 1];
-    let z = b[k + 2];
-    let t = b[k + 3];
-    [x, y, z, t, x, y, z, t, x, y, z, t, x, y, z, t]
+    repeated(
+        b,
+        lane % 4 * 4,
+        [0, 1, 2, 3, 0, 1, 2, 3, 0, 1, 2, 3, 0, 1, 2, 3],
+    )
 }

@@ -1,90 +1,50 @@
 // Bytes of one vector followed by another that are named by a third, and the patterns that name them.
-ghost use Rattle.std.specs.Prelude.{◌≡◌, ◌%◌};
-ghost use Rattle.moves.specs.Chosen.{byte_of, permuted, pattern_left, pattern_right};
+ghost use Rattle.std.specs.Prelude.{◌≡◌, ◌+◌, ◌≤◌, bit_and, map, slice_index};
+ghost use Rattle.moves.specs.Chosen.{permuted, places, pattern_left, pattern_right};
 
-// The byte of a followed by b that the low five bits of k name.
-fn named(a: &[u8; 16], b: &[u8; 16], k: u8) -> u8
-    ensures { result ≡ byte_of a.now b.now (k % 32) }
-{
-    let i = (k % 32) as usize;
-    if i < 16 { a[i] } else { b[i - 16] }
-}
+use std::simd::prelude::*;
 
-// The bytes that c names; a and b are lent once for all of them.
-fn chosen(a: &[u8; 16], b: &[u8; 16], c: [u8; 16]) -> [u8; 16]
-    ensures { result ≡ permuted a.now b.now c }
+// The bytes of v that the low four bits of k name.
+#[inline(always)]
+pub fn named(v: u8x16, k: u8x16) -> u8x16
+    ensures { result ≡ map (λ x. slice_index v (bit_and x 15)) k }
 {
-    [
-        named(a, b, c[0]),
-        named(a, b, c[1]),
-        named(a, b, c[2]),
-        named(a, b, c[3]),
-        named(a, b, c[4]),
-        named(a, b, c[5]),
-        named(a, b, c[6]),
-        named(a, b, c[7]),
-        named(a, b, c[8]),
-        named(a, b, c[9]),
-        named(a, b, c[10]),
-        named(a, b, c[11]),
-        named(a, b, c[12]),
-        named(a, b, c[13]),
-        named(a, b, c[14]),
-        named(a, b, c[15]),
-    ]
+    v.swizzle_dyn(k & u8x16::splat(15))
 }
 
 pub fn vperm(a: [u8; 16], b: [u8; 16], c: [u8; 16]) -> [u8; 16]
     ensures { result ≡ permuted a b c }
 {
-    chosen(&a, &b, c)
+    let k = u8x16::from_array(c);
+    let x = named(u8x16::from_array(a), k);
+    let y = named(u8x16::from_array(b), k);
+    let left = (k & u8x16::splat(31)).simd_lt(u8x16::splat(16));
+    left.select(x, y).to_array()
+}
+
+static NUMBERS: [u8; 32] = [
+    0, 1, 2, 3, 4, 5, 6, 7, 8, 9, 10, 11, 12, 13, 14, 15, 16, 17, 18, 19, 20, 21, 22, 23, 24, 25,
+    26, 27, 28, 29, 30, 31,
+];
+
+// The sixteen numbers from n on.
+#[inline(always)]
+fn counted(n: usize) -> [u8; 16]
+    requires { n ≤ 16 }
+    ensures { result ≡ places 16 0 (λ i. n + i) }
+{
+    u8x16::from_slice(&NUMBERS[n..]).to_array()
 }
 
 // For the low four bits s of an address.
 pub fn lvsl(s: u8) -> [u8; 16]
     ensures { result ≡ pattern_left s }
 {
-    let n = s % 16;
-    [
-        n,
-        n + 1,
-        n + 2,
-        n + 3,
-        n + 4,
-        n + 5,
-        n + 6,
-        n + 7,
-        n + 8,
-        n + 9,
-        n + 10,
-        n + 11,
-        n + 12,
-        n + 13,
-        n + 14,
-        n + 15,
-    ]
+    counted((s % 16) as usize)
 }
 
 pub fn lvsr(s: u8) -> [u8; 16]
     ensures { result ≡ pattern_right s }
 {
-    let n = 16 - s % 16;
-    [
-        n,
-        n + 1,
-        n + 2,
-        n + 3,
-        n + 4,
-        n + 5,
-        n + 6,
-        n + 7,
-        n + 8,
-        n + 9,
-        n + 10,
-        n + 11,
-        n + 12,
-        n + 13,
-        n + 14,
-        n + 15,
-    ]
+    counted((16 - s % 16) as usize)
 }

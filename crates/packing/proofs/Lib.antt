@@ -1,2 +1,3 @@
+pub mod Clamped
 pub mod Resized
 pub mod Summed

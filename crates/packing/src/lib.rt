@@ -1,7 +1,7 @@
 // The instructions that make new lanes across words, on vectors of 16 bytes: packs, unpacks, and the two sums across words.
 #![tactic(auto)]
 
-mod marks;
+mod narrowed;
 mod packs;
 mod sums;
 mod unpacks;

@@ -1,71 +1,53 @@
-// Unpacks: the lanes of half a vector, each with its sign extended.
-ghost use Rattle.std.specs.Prelude.{◌≡◌, cond, ltb};
-ghost use Rattle.packing.specs.Resized.{extended, unpacked_high, unpacked_low};
+// Unpacks: the lanes of half a vector, each with its sign extended, which are copies of the sign before its bytes.
+ghost use Rattle.std.specs.Prelude.{◌≡◌, cond, ltb, map};
+ghost use Rattle.packing.specs.Resized.{unpacked_high, unpacked_low};
 
-use lanes::Size;
+use lanes::{Size, bytes};
+use std::simd::prelude::*;
 
-// Eight copies of the sign of x.
-fn sign(x: u8) -> u8
-    ensures { result ≡ cond (ltb x 128) 0 255 }
+// Eight copies of the sign of each byte.
+#[inline(always)]
+fn signs(v: u8x16) -> u8x16
+    ensures { result ≡ map (λ x. cond (ltb x 128) 0 255) v }
 {
-    if x < 128 { 0 } else { 255 }
-}
-
-fn bytes(v: [u8; 8]) -> [u8; 16]
-    ensures { result ≡ extended Size.Byte Size.Half 0 v }
-{
-    [
-        sign(v[0]),
-        v[0],
-        sign(v[1]),
-        v[1],
-        sign(v[2]),
-        v[2],
-        sign(v[3]),
-        v[3],
-        sign(v[4]),
-        v[4],
-        sign(v[5]),
-        v[5],
-        sign(v[6]),
-        v[6],
-        sign(v[7]),
-        v[7],
-    ]
-}
-
-fn halves(v: [u8; 8]) -> [u8; 16]
-    ensures { result ≡ extended Size.Half Size.Word 0 v }
-{
-    let s0 = sign(v[0]);
-    let s1 = sign(v[2]);
-    let s2 = sign(v[4]);
-    let s3 = sign(v[6]);
-    [
-        s0, s0, v[0], v[1], s1, s1, v[2], v[3], s2, s2, v[4], v[5], s3, s3, v[6], v[7],
-    ]
+    v.simd_lt(u8x16::splat(128))
+        .select(u8x16::splat(0), u8x16::splat(255))
 }
 
 pub fn vupkhsb(b: [u8; 16]) -> [u8; 16]
     ensures { result ≡ unpacked_high Size.Byte Size.Half b }
 {
-    bytes([b[0], b[1], b[2], b[3], b[4], b[5], b[6], b[7]])
+    let v = bytes(b);
+    let r: u8x16 = signs(v).shuffle(v, [0, 16, 1, 17, 2, 18, 3, 19, 4, 20, 5, 21, 6, 22, 7, 23]);
+    r.to_array()
 }
 
 pub fn vupkhsh(b: [u8; 16]) -> [u8; 16]
     ensures { result ≡ unpacked_high Size.Half Size.Word b }
 {
-    halves([b[0], b[1], b[2], b[3], b[4], b[5], b[6], b[7]])
+    let v = bytes(b);
+    let r: u8x16 = signs(v).shuffle(v, [0, 0, 16, 17, 2, 2, 18, 19, 4, 4, 20, 21, 6, 6, 22, 23]);
+    r.to_array()
 }
 
 pub fn vupklsb(b: [u8; 16]) -> [u8; 16]
     ensures { result ≡ unpacked_low Size.Byte Size.Half b }
 {
-    bytes([b[8], b[9], b[10], b[11], b[12], b[13], b[14], b[15]])
+    let v = bytes(b);
+    let r: u8x16 = signs(v).shuffle(
+        v,
+        [8, 24, 9, 25, 10, 26, 11, 27, 12, 28, 13, 29, 14, 30, 15, 31],
+    );
+    r.to_array()
 }
 
 pub fn vupklsh(b: [u8; 16]) -> [u8; 16]
     ensures { result ≡ unpacked_low Size.Half Size.Word b }
 {
-    halves([b[8], b[9], b[10], b[11], b[12], b[13], b[14], b[15]])
+    let v = bytes(b);
+    let r: u8x16 = signs(v).shuffle(
+        v,
+        [8, 8, 24, 25, 10, 10, 26, 27, 12, 12, 28, 29, 14, 14, 30, 31],
+    );
+    r.to_array()
 }

@@ -1,6 +1,10 @@
--- `slides::vslo` meets its contract.
--- Assumes nothing.
+use Rattle.std.proofs.Common.{◌∙◌, ◌+◌, ℕ, ap, arith, mod-eq_of_lt}
+use Rattle.moves.specs.Chosen.{places}
+use Rattle.slides.specs.Slid.{zeros, octets}
+use Rattle.slides.proofs.Slid.{slid-is}
 use Rattle.slides.proofs.vslo.Goals as goal
 
 pub returns : goal.returns
-returns c = rw (← c.bytes_in.ensures.0) c.slide.ensures
+returns c =
+    let e = mod-eq_of_lt c.octets.ensures.1 ∙ c.octets.ensures.0 in
+    c.vperm.ensures ∙ slid-is c.args.a zeros (octets c.args.b) (c.lvsl.ensures ∙ ap (λ (n : ℕ). places 16 0 (λ i. n + i)) e) (omega arith)

@@ -1,10 +1,8 @@
--- `moves::permutes::named` meets its contract.
--- Assumes nothing.
-use borrow.Author.Tests.{lt-ltb, le-ltb}
+use Rattle.moves.proofs.ByName.{named-ok, named-is}
 use Rattle.moves.proofs.permutes.named.Goals as goal
 
-pub returns-then-i-lt16 : goal.returns-then-i-lt16
-returns-then-i-lt16 c = simp (lt-ltb _ _ c.if-i-lt16.true)
+pub swizzle : goal.swizzle
+swizzle c = named-ok c.args.k c.fits-k.0
 
-pub returns-else-i-lt16 : goal.returns-else-i-lt16
-returns-else-i-lt16 c = simp (le-ltb _ _ c.if-i-lt16.false)
+pub returns : goal.returns
+returns c = named-is c.args.k c.fits-k.0 c.args.v

@@ -1,10 +1,5 @@
--- `moves::shifts::vsr` meets its contract.
--- Assumes nothing.
-use native.Mathlib.Omega.{arith}
-use mathlib.Core.Path.{◌∙◌}
-use Rattle.moves.proofs.Shifted.{right}
-use Rattle.groups.proofs.Places.{fit}
+use Rattle.moves.proofs.Shifted.{number-is}
 use Rattle.moves.proofs.shifts.vsr.Goals as goal
 
 pub returns : goal.returns
-returns c = rw (← c.bits.ensures.0) (c.window.ensures ∙ right c.args.a (fit c.args.a c.well_formed.0.0 c.well_formed.0.1.1) c.bits.result (omega arith))
+returns c = rw (c.bytes_of.ensures, c.from_be_bytes.ensures, c.bits.ensures.0, number-is c.args.a)

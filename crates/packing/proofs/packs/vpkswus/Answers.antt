@@ -1,11 +1,7 @@
--- `packing::packs::vpkswus` meets its contract: by the law of signed packs.
--- Assumes nothing.
-use mathlib.Core.Path.{refl, ◌∙◌}
+use Rattle.std.proofs.Common.{◌∙◌, refl}
 use Rattle.lanes.specs.declared.Size.TheVariants.{Half, Word}
-use Rattle.groups.proofs.Places.{fit}
 use Rattle.packing.proofs.Resized.{signed_pack}
 use Rattle.packing.proofs.packs.vpkswus.Goals as goal
 
 pub returns : goal.returns
-returns c = let s = c in
-    c.to_halves.ensures ∙ signed_pack Word Half s.args.a s.args.b (fit s.args.a s.well_formed.0.0 s.well_formed.0.1.1) (fit s.args.b s.well_formed.1.0.0 s.well_formed.1.0.1.1) 32768 refl 2147483648 2147549183
+returns c = c.packed_words.ensures.is ∙ signed_pack Word Half c.args.a c.args.b c.packed_words.ensures.bytes.0 c.packed_words.ensures.bytes.1 2147483648 2147549183 32768 refl

@@ -1,11 +1,7 @@
--- `packing::packs::vpkuhus` meets its contract: by the law of unsigned packs.
--- Assumes nothing.
-use mathlib.Core.Path.{◌∙◌}
+use Rattle.std.proofs.Common.{◌∙◌}
 use Rattle.lanes.specs.declared.Size.TheVariants.{Byte, Half}
-use Rattle.groups.proofs.Places.{fit}
 use Rattle.packing.proofs.Resized.{unsigned_pack}
 use Rattle.packing.proofs.packs.vpkuhus.Goals as goal
 
 pub returns : goal.returns
-returns c = let s = c in
-    c.to_bytes.ensures ∙ unsigned_pack Half Byte s.args.a s.args.b (fit s.args.a s.well_formed.0.0 s.well_formed.0.1.1) (fit s.args.b s.well_formed.1.0.0 s.well_formed.1.0.1.1) 0 255
+returns c = c.packed_halves.ensures.is ∙ unsigned_pack Half Byte c.args.a c.args.b c.packed_halves.ensures.bytes.0 c.packed_halves.ensures.bytes.1 0 255

@@ -1,11 +1,7 @@
--- `packing::packs::vpkuwus` meets its contract: by the law of unsigned packs.
--- Assumes nothing.
-use mathlib.Core.Path.{◌∙◌}
+use Rattle.std.proofs.Common.{◌∙◌}
 use Rattle.lanes.specs.declared.Size.TheVariants.{Half, Word}
-use Rattle.groups.proofs.Places.{fit}
 use Rattle.packing.proofs.Resized.{unsigned_pack}
 use Rattle.packing.proofs.packs.vpkuwus.Goals as goal
 
 pub returns : goal.returns
-returns c = let s = c in
-    c.to_halves.ensures ∙ unsigned_pack Word Half s.args.a s.args.b (fit s.args.a s.well_formed.0.0 s.well_formed.0.1.1) (fit s.args.b s.well_formed.1.0.0 s.well_formed.1.0.1.1) 0 65535
+returns c = c.packed_words.ensures.is ∙ unsigned_pack Word Half c.args.a c.args.b c.packed_words.ensures.bytes.0 c.packed_words.ensures.bytes.1 0 65535

@@ -1,17 +1,15 @@
--- `packing::sums::odd_words` meets its contract.
--- Assumes nothing.
-use native.Mathlib.Omega.{arith}
-use mathlib.Core.Path.{refl}
-use Rattle.packing.specs.Resized.{vector_of}
-use Rattle.groups.proofs.Same.{same_marked}
+use Rattle.std.proofs.Common.{◌∙◌, ◌^◌, ◌<◌, ℕ, cond, eqb, arith}
+use Rattle.lanes.specs.declared.Size.TheVariants.{Word}
+use Rattle.lanes.specs.Integer.{plain}
+use Rattle.lanes.proofs.Bridge.{same_marked}
+use Rattle.packing.proofs.Resized.{vector-of}
+use Rattle.packing.proofs.Summed.{choice-lt, odd_marks}
 use Rattle.packing.proofs.sums.odd_words.Goals as goal
 
-pub mark-requires : goal.mark-requires
-mark-requires c = tt
-
-pub mark-requires-2 : goal.mark-requires-2
-mark-requires-2 c = tt
-
 pub returns : goal.returns
-unfolding vector_of
-returns c = same_marked refl (omega (arith, c.mark.ensures.0, c.mark-2.ensures.0))
+returns c =
+    let p = c.args.p in
+    let q = c.args.q in
+    let zero : 0 < 2 ^ 32 = omega arith in
+    same_marked c.of_words-bytes.ensures (odd_marks p.clipped q.clipped)
+    ∙ vector-of Word (λ (j : ℕ). cond (eqb j 1) p (cond (eqb j 3) q (plain 0))) (λ j. choice-lt (eqb j 1) p _ c.requires.0 (choice-lt (eqb j 3) q (plain 0) c.requires.1 zero))

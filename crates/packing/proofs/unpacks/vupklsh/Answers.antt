@@ -1,12 +1,9 @@
--- `packing::unpacks::vupklsh` meets its contract.
--- Assumes nothing.
+use Rattle.lanes.specs.Integer.{modulo}
 use Rattle.lanes.specs.Numbers.{number_at}
 use Rattle.packing.specs.Resized.{vector_of}
+use Rattle.packing.proofs.Resized.{halves-wider}
 use Rattle.packing.proofs.unpacks.vupklsh.Goals as goal
 
-pub halves-requires : goal.halves-requires
-halves-requires c = tt
-
 pub returns : goal.returns
-unfolding vector_of number_at
-returns c = c.halves.ensures
+unfolding vector_of number_at modulo
+returns c = let v = c.bytes-v.ensures in rw (c.signs.ensures, v.lanes) (halves-wider c.args.b v.bytes 4 8)

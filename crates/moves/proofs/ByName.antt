@@ -1,0 +1,99 @@
+-- Bytes that are named by the low bits of others. Assumes nothing.
+use Rattle.std.proofs.Common.{◌≡◌, ℕ, suc, ◌+◌, ◌-◌, ◌*◌, ◌/◌, ◌%◌, ◌<◌, ◌≤◌, zero, Bool, true, false, cond, ltb, List, [], ◌∷◌, map, length, bit_and, refl, sym, subst, ◌∙◌, arith, ltb-true, ltb-false}
+use Rattle.std.proofs.lemmas.Bool.{lt-leb}
+use Rattle.std.proofs.lemmas.Nat.{and_le_r, and_mask}
+use Rattle.std.proofs.lemmas.Simd.{SwzOk-from_below, swz_l, zip2_splat, zip2_splat_left, pick_l_whole, pick_l-range_with_len, get_or-chunk, length-chunk}
+use Rattle.std.proofs.lemmas.List.FromFn.{get_or-range_with_len}
+use Rattle.std.proofs.Math.Nat.{zero-add}
+use Rattle.std.specs.List.{range_with_len}
+use lib.ListN.{get_or, replicate, length-map}
+use lib.Lanes.{Each1, zip2, sel_l, top, pick_l, chunk}
+use mir.Syntax.{w8}
+use borrow.Rule.Simd.Moves.{SwzOk}
+use Rattle.moves.specs.Chosen.{places, byte_of, permuted}
+
+low : (xs : List ℕ) → Each1 (λ j. j < 16) (map (λ x. bit_and x 15) xs)
+low [] = tt
+low (x ∷ xs) = (omega (arith, and_le_r x 15), low xs)
+
+read : (v : List ℕ) (xs : List ℕ) (i : ℕ) → i + length xs ≤ 16 → swz_l w8 16 v i (map (λ x. bit_and x 15) xs) ≡ map (λ x. get_or v (bit_and x 15) 0) xs
+read v [] i h = refl
+read v (x ∷ xs) i h =
+    let s : suc (length xs) ≡ length xs + 1 = omega arith in
+    let l : i < 16 = omega arith in
+    let a : 16 * (i / 16) + bit_and x 15 ≡ bit_and x 15 = omega arith in
+    let b : bit_and x 15 < 128 = omega (arith, and_le_r x 15) in
+    let r = read v xs (suc i) (omega arith) in
+    rw (lt-leb 128 (bit_and x 15) b, a, r) refl
+
+module _ (k : List ℕ) (e : length k ≡ 16) where
+  masked : zip2 bit_and k (replicate 16 15) ≡ map (λ x. bit_and x 15) k
+  masked = zip2_splat bit_and k 16 15 e
+
+  pub named-ok : SwzOk w8 16 16 0 (zip2 bit_and k (replicate 16 15))
+  named-ok = rw masked (SwzOk-from_below w8 16 1 16 0 (map (λ x. bit_and x 15) k) (omega arith) (omega (arith, length-map k (λ x. bit_and x 15))) (low k))
+
+  pub named-is : (v : List ℕ) → swz_l w8 16 v 0 (zip2 bit_and k (replicate 16 15)) ≡ map (λ x. get_or v (bit_and x 15) 0) k
+  named-is v = rw masked (read v k 0 (omega arith))
+
+-- the choice between two vectors
+chosen : (a b : List ℕ) (x : ℕ) (t : Bool) → ltb (x % 32) 16 ≡ t → cond (top 7 (cond (ltb (bit_and x 31) 16) 255 0)) (get_or a (bit_and x 15) 0) (get_or b (bit_and x 15) 0) ≡ byte_of a b (x % 32)
+chosen a b x true h =
+    let l = ltb-true (x % 32) 16 h in
+    let e : x % 16 ≡ x % 32 = omega arith in
+    rw (and_mask x 4, and_mask x 5, h, e) refl
+chosen a b x false h =
+    let l = ltb-false (x % 32) 16 h in
+    let e : x % 16 ≡ x % 32 - 16 = omega arith in
+    rw (and_mask x 4, and_mask x 5, h, e) refl
+
+module _ (a b : List ℕ) where
+  by_five_bits : List ℕ → List ℕ
+  by_five_bits c = sel_l (map (top 7) (map (λ x. cond (ltb (bit_and x 31) 16) 255 0) c)) (map (λ x. get_or a (bit_and x 15) 0) c) (map (λ x. get_or b (bit_and x 15) 0) c)
+
+  each : (xs : List ℕ) → by_five_bits xs ≡ map (λ x. byte_of a b (x % 32)) xs
+  unfolding by_five_bits
+  each [] = refl
+  each (x ∷ xs) = λ i. chosen a b x (ltb (x % 32) 16) refl i ∷ each xs i
+
+  abbrev less : ℕ → ℕ → ℕ
+  less x y = cond (ltb x y) 255 0
+
+  pub permuted-is : (c : List ℕ) → length c ≡ 16 → sel_l (map (top 7) (zip2 less (zip2 bit_and c (replicate 16 31)) (replicate 16 16))) (map (λ x. get_or a (bit_and x 15) 0) c) (map (λ x. get_or b (bit_and x 15) 0) c) ≡ permuted a b c
+  unfolding by_five_bits
+  permuted-is c e =
+      subst (λ (u : List ℕ). sel_l (map (top 7) (zip2 less (zip2 bit_and u (replicate 16 31)) (replicate 16 16))) (map (λ x. get_or a (bit_and x 15) 0) u) (map (λ x. get_or b (bit_and x 15) 0) u) ≡ permuted a b u) (pick_l_whole 0 c 16 e)
+      (each (pick_l 0 c (range_with_len 0 16)))
+
+-- bytes from a place k on
+module _ (v : List ℕ) (k : ℕ) where
+  from_place : (at : List ℕ) → map (λ x. get_or v (bit_and x 15) 0) (map (λ i. (k + i) % 256) at) ≡ map (λ i. get_or v ((k + i) % 16) 0) at
+  from_place [] = refl
+  from_place (i ∷ at) =
+      let e : (k + i) % 256 % 16 ≡ (k + i) % 16 = omega arith in
+      let p = and_mask ((k + i) % 256) 4 ∙ e in
+      let r = from_place at in
+      λ t. get_or v (p t) 0 ∷ r t
+
+  pub repeated-is : (at : List ℕ) → length at ≡ 16 → map (λ x. get_or v (bit_and x 15) 0) (zip2 (λ a b. (a + b) % 256) (replicate 16 k) at) ≡ map (λ i. get_or v ((k + i) % 16) 0) at
+  repeated-is at e = rw (zip2_splat_left (λ a b. (a + b) % 256) k 16 at e) (from_place at)
+
+-- the numbers from n on, read off a list of the first 32
+module _ (n : ℕ) (h : n ≤ 16) where
+  numbers : List ℕ
+  numbers = chunk n (32 - n) (range_with_len 0 32)
+
+  number : (j : ℕ) → j < 16 → get_or numbers j 0 ≡ n + j
+  unfolding numbers
+  number j k = get_or-chunk n (32 - n) (range_with_len 0 32) j 0 (omega arith) ∙ get_or-range_with_len 0 32 (n + j) 0 (omega arith) ∙ zero-add (n + j)
+
+  in_turn : (k i : ℕ) → i + k ≤ 16 → places k i (λ j. get_or numbers j 0) ≡ places k i (λ j. n + j)
+  in_turn zero i l = refl
+  in_turn (suc k) i l =
+      let e = number i (omega arith) in
+      let r = in_turn k (suc i) (omega arith) in
+      λ t. e t ∷ r t
+
+  pub counted-is : chunk 0 16 (chunk n (32 - n) (range_with_len 0 32)) ≡ places 16 0 (λ i. n + i)
+  unfolding numbers
+  counted-is = sym (pick_l-range_with_len 0 (chunk n (32 - n) (range_with_len 0 32)) 0 16 (omega (arith, length-chunk n (32 - n) (range_with_len 0 32) (omega arith)))) ∙ in_turn 16 0 (omega arith)

@@ -1,0 +1,14 @@
+pub mod Masks
+pub mod AddUnsigned
+pub mod AddSigned
+pub mod SubSigned
+pub mod Sums
+pub mod Ordered
+pub mod Bitwise
+pub mod Shifts
+pub mod Exact
+pub mod Wrapped
+pub mod Products
+pub mod LowParts
+pub mod Multiplied
+pub mod MulSum

@@ -1,0 +1,8 @@
+-- `vector::vadduhs` by the law of its operation at a lane. Assumes nothing.
+use Rattle.lanes.specs.declared.Size.TheVariants.{Half}
+use Rattle.lanes.proofs.Bridge.{marked_on_two}
+use Rattle.vector.proofs.Sums.{add_sat_u}
+use Rattle.vector.proofs.vadduhs.Goals as goal
+
+pub returns : goal.returns
+returns c = rw (c.marked.ensures, c.of_halves.ensures, c.halves-x.ensures.lanes, c.halves-y.ensures.lanes) (marked_on_two (add_sat_u Half) c.halves-x.ensures c.halves-y.ensures)

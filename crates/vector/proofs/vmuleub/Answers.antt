@@ -1,0 +1,7 @@
+-- `vector::vmuleub` by the law of its operation at a lane. Assumes nothing.
+use Rattle.lanes.proofs.Bridge.{on_two}
+use Rattle.vector.proofs.Multiplied.{mul_even_bytes}
+use Rattle.vector.proofs.vmuleub.Goals as goal
+
+pub returns : goal.returns
+returns c = rw (c.of_halves.ensures, c.halves-x.ensures.lanes, c.halves-y.ensures.lanes) (on_two mul_even_bytes c.halves-x.ensures c.halves-y.ensures)

@@ -1,0 +1,8 @@
+-- `vector::vsubsws` by the law of its operation at a lane. Assumes nothing.
+use Rattle.lanes.specs.declared.Size.TheVariants.{Word}
+use Rattle.lanes.proofs.Bridge.{marked_on_two}
+use Rattle.vector.proofs.Sums.{sub_sat_s}
+use Rattle.vector.proofs.vsubsws.Goals as goal
+
+pub returns : goal.returns
+returns c = rw (c.marked.ensures, c.of_words.ensures, c.words-x.ensures.lanes, c.words-y.ensures.lanes) (marked_on_two (sub_sat_s Word) c.words-x.ensures c.words-y.ensures)

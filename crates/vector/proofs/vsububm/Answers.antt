@@ -1,0 +1,8 @@
+-- `vector::vsububm` by the law of its operation at a lane. Assumes nothing.
+use Rattle.lanes.specs.declared.Size.TheVariants.{Byte}
+use Rattle.lanes.proofs.Bridge.{on_two}
+use Rattle.vector.proofs.Sums.{sub_modulo}
+use Rattle.vector.proofs.vsububm.Goals as goal
+
+pub returns : goal.returns
+returns c = rw (c.of_bytes.ensures, c.bytes-x.ensures.lanes, c.bytes-y.ensures.lanes) (on_two (sub_modulo Byte) c.bytes-x.ensures c.bytes-y.ensures)

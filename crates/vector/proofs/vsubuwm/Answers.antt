@@ -1,0 +1,8 @@
+-- `vector::vsubuwm` by the law of its operation at a lane. Assumes nothing.
+use Rattle.lanes.specs.declared.Size.TheVariants.{Word}
+use Rattle.lanes.proofs.Bridge.{on_two}
+use Rattle.vector.proofs.Sums.{sub_modulo}
+use Rattle.vector.proofs.vsubuwm.Goals as goal
+
+pub returns : goal.returns
+returns c = rw (c.of_words.ensures, c.words-x.ensures.lanes, c.words-y.ensures.lanes) (on_two (sub_modulo Word) c.words-x.ensures c.words-y.ensures)
