@@ -1,387 +1,302 @@
-// The choice of a vector instruction by its operation, width and sign. Each reads its registers and writes register D for itself.
+// The choice of a vector instruction by its operation, width and sign; it is carried out on the registers.
 #![tactic(auto)]
 
-ghost use Rattle.std.specs.Prelude.{◌<◌};
+ghost use Rattle.std.specs.Prelude.{◌≡◌, ◌<◌, ◌%◌};
+ghost use Rattle.moves.specs.Chosen.{splat};
+ghost use Rattle.slides.specs.Slid.{slid};
 ghost use Rattle.registers.specs.Registers.{at, Leaves};
 ghost use Rattle.compute.specs.Computed.{computed};
 
-use encodings::ops::Op;
-use encodings::ops::Sign;
-use encodings::ops::Width;
-use register_bits::vand;
-use register_bits::vandc;
-use register_bits::vcmpequb;
-use register_bits::vcmpequh;
-use register_bits::vcmpequw;
-use register_bits::vcmpgtsb;
-use register_bits::vcmpgtsh;
-use register_bits::vcmpgtsw;
-use register_bits::vcmpgtub;
-use register_bits::vcmpgtuh;
-use register_bits::vcmpgtuw;
-use register_bits::vnor;
-use register_bits::vor;
-use register_bits::vrlb;
-use register_bits::vrlh;
-use register_bits::vrlw;
-use register_bits::vsel;
-use register_bits::vslb;
-use register_bits::vslh;
-use register_bits::vslw;
-use register_bits::vspltisb;
-use register_bits::vspltish;
-use register_bits::vspltisw;
-use register_bits::vsrab;
-use register_bits::vsrah;
-use register_bits::vsraw;
-use register_bits::vsrb;
-use register_bits::vsrh;
-use register_bits::vsrw;
-use register_bits::vxor;
-use register_moves::vmrghb;
-use register_moves::vmrghh;
-use register_moves::vmrghw;
-use register_moves::vmrglb;
-use register_moves::vmrglh;
-use register_moves::vmrglw;
-use register_moves::vperm;
-use register_moves::vpkshss;
-use register_moves::vpkshus;
-use register_moves::vpkswss;
-use register_moves::vpkswus;
-use register_moves::vpkuhum;
-use register_moves::vpkuhus;
-use register_moves::vpkuwum;
-use register_moves::vpkuwus;
-use register_moves::vsl;
-use register_moves::vsldoi;
-use register_moves::vslo;
-use register_moves::vspltb;
-use register_moves::vsplth;
-use register_moves::vspltw;
-use register_moves::vsr;
-use register_moves::vsro;
-use register_moves::vsum2sws;
-use register_moves::vsumsws;
-use register_moves::vupkhsb;
-use register_moves::vupkhsh;
-use register_moves::vupklsb;
-use register_moves::vupklsh;
-use register_products::vmhaddshs;
-use register_products::vmhraddshs;
-use register_products::vmladduhm;
-use register_products::vmsummbm;
-use register_products::vmsumshm;
-use register_products::vmsumshs;
-use register_products::vmsumubm;
-use register_products::vmsumuhm;
-use register_products::vmsumuhs;
-use register_products::vmulesb;
-use register_products::vmulesh;
-use register_products::vmuleub;
-use register_products::vmuleuh;
-use register_products::vmulosb;
-use register_products::vmulosh;
-use register_products::vmuloub;
-use register_products::vmulouh;
-use register_products::vsum4sbs;
-use register_products::vsum4shs;
-use register_products::vsum4ubs;
-use register_sums::vaddcuw;
-use register_sums::vaddsbs;
-use register_sums::vaddshs;
-use register_sums::vaddsws;
-use register_sums::vaddubm;
-use register_sums::vaddubs;
-use register_sums::vadduhm;
-use register_sums::vadduhs;
-use register_sums::vadduwm;
-use register_sums::vadduws;
-use register_sums::vavgsb;
-use register_sums::vavgsh;
-use register_sums::vavgsw;
-use register_sums::vavgub;
-use register_sums::vavguh;
-use register_sums::vavguw;
-use register_sums::vmaxsb;
-use register_sums::vmaxsh;
-use register_sums::vmaxsw;
-use register_sums::vmaxub;
-use register_sums::vmaxuh;
-use register_sums::vmaxuw;
-use register_sums::vminsb;
-use register_sums::vminsh;
-use register_sums::vminsw;
-use register_sums::vminub;
-use register_sums::vminuh;
-use register_sums::vminuw;
-use register_sums::vsubcuw;
-use register_sums::vsubsbs;
-use register_sums::vsubshs;
-use register_sums::vsubsws;
-use register_sums::vsububm;
-use register_sums::vsububs;
-use register_sums::vsubuhm;
-use register_sums::vsubuhs;
-use register_sums::vsubuwm;
-use register_sums::vsubuws;
-use registers::copy;
+use encodings::ops::{Op, Sign, Width};
+use lanes::Size;
+use registers::{Outcome, copy, on_one, on_three, on_two};
 
 // What op computes of the registers a, b and c, of its A field a and of its byte count n goes into register d; the marks.
 // Where no instruction has the width and the sign, the first operand as it is: no word carries such an operation.
 // The operation stands last, so that an instruction finds its registers where they are.
+#[tactic(auto, using(crate::proofs::Carried::carried), unfolding(crate::specs::Computed::computed))]
 pub fn compute(v: &mut [u8; 512], d: usize, a: usize, b: usize, c: usize, n: u8, op: Op) -> u32
     requires { (d < 32) × (a < 32) × (b < 32) × (c < 32) }
     ensures { Leaves (computed op (at v.old a) (at v.old b) (at v.old c) a n) d v.old v.new result }
 {
+    let i = a as u8;
     match op {
         Op::AddMod(w) => match w {
-            Width::Byte => vaddubm(v, d, a, b),
-            Width::Half => vadduhm(v, d, a, b),
-            Width::Word => vadduwm(v, d, a, b),
+            Width::Byte => on_two(v, d, a, b, vector::vaddubm),
+            Width::Half => on_two(v, d, a, b, vector::vadduhm),
+            Width::Word => on_two(v, d, a, b, vector::vadduwm),
         },
-        Op::AddCarry => vaddcuw(v, d, a, b),
+        Op::AddCarry => on_two(v, d, a, b, vector::vaddcuw),
         Op::AddSat(w, s) => match w {
             Width::Byte => match s {
-                Sign::Unsigned => vaddubs(v, d, a, b),
-                Sign::Signed => vaddsbs(v, d, a, b),
+                Sign::Unsigned => on_two(v, d, a, b, vector::vaddubs),
+                Sign::Signed => on_two(v, d, a, b, vector::vaddsbs),
             },
             Width::Half => match s {
-                Sign::Unsigned => vadduhs(v, d, a, b),
-                Sign::Signed => vaddshs(v, d, a, b),
+                Sign::Unsigned => on_two(v, d, a, b, vector::vadduhs),
+                Sign::Signed => on_two(v, d, a, b, vector::vaddshs),
             },
             Width::Word => match s {
-                Sign::Unsigned => vadduws(v, d, a, b),
-                Sign::Signed => vaddsws(v, d, a, b),
+                Sign::Unsigned => on_two(v, d, a, b, vector::vadduws),
+                Sign::Signed => on_two(v, d, a, b, vector::vaddsws),
             },
         },
         Op::SubMod(w) => match w {
-            Width::Byte => vsububm(v, d, a, b),
-            Width::Half => vsubuhm(v, d, a, b),
-            Width::Word => vsubuwm(v, d, a, b),
+            Width::Byte => on_two(v, d, a, b, vector::vsububm),
+            Width::Half => on_two(v, d, a, b, vector::vsubuhm),
+            Width::Word => on_two(v, d, a, b, vector::vsubuwm),
         },
-        Op::SubCarry => vsubcuw(v, d, a, b),
+        Op::SubCarry => on_two(v, d, a, b, vector::vsubcuw),
         Op::SubSat(w, s) => match w {
             Width::Byte => match s {
-                Sign::Unsigned => vsububs(v, d, a, b),
-                Sign::Signed => vsubsbs(v, d, a, b),
+                Sign::Unsigned => on_two(v, d, a, b, vector::vsububs),
+                Sign::Signed => on_two(v, d, a, b, vector::vsubsbs),
             },
             Width::Half => match s {
-                Sign::Unsigned => vsubuhs(v, d, a, b),
-                Sign::Signed => vsubshs(v, d, a, b),
+                Sign::Unsigned => on_two(v, d, a, b, vector::vsubuhs),
+                Sign::Signed => on_two(v, d, a, b, vector::vsubshs),
             },
             Width::Word => match s {
-                Sign::Unsigned => vsubuws(v, d, a, b),
-                Sign::Signed => vsubsws(v, d, a, b),
+                Sign::Unsigned => on_two(v, d, a, b, vector::vsubuws),
+                Sign::Signed => on_two(v, d, a, b, vector::vsubsws),
             },
         },
         Op::Max(w, s) => match w {
             Width::Byte => match s {
-                Sign::Unsigned => vmaxub(v, d, a, b),
-                Sign::Signed => vmaxsb(v, d, a, b),
+                Sign::Unsigned => on_two(v, d, a, b, vector::vmaxub),
+                Sign::Signed => on_two(v, d, a, b, vector::vmaxsb),
             },
             Width::Half => match s {
-                Sign::Unsigned => vmaxuh(v, d, a, b),
-                Sign::Signed => vmaxsh(v, d, a, b),
+                Sign::Unsigned => on_two(v, d, a, b, vector::vmaxuh),
+                Sign::Signed => on_two(v, d, a, b, vector::vmaxsh),
             },
             Width::Word => match s {
-                Sign::Unsigned => vmaxuw(v, d, a, b),
-                Sign::Signed => vmaxsw(v, d, a, b),
+                Sign::Unsigned => on_two(v, d, a, b, vector::vmaxuw),
+                Sign::Signed => on_two(v, d, a, b, vector::vmaxsw),
             },
         },
         Op::Min(w, s) => match w {
             Width::Byte => match s {
-                Sign::Unsigned => vminub(v, d, a, b),
-                Sign::Signed => vminsb(v, d, a, b),
+                Sign::Unsigned => on_two(v, d, a, b, vector::vminub),
+                Sign::Signed => on_two(v, d, a, b, vector::vminsb),
             },
             Width::Half => match s {
-                Sign::Unsigned => vminuh(v, d, a, b),
-                Sign::Signed => vminsh(v, d, a, b),
+                Sign::Unsigned => on_two(v, d, a, b, vector::vminuh),
+                Sign::Signed => on_two(v, d, a, b, vector::vminsh),
             },
             Width::Word => match s {
-                Sign::Unsigned => vminuw(v, d, a, b),
-                Sign::Signed => vminsw(v, d, a, b),
+                Sign::Unsigned => on_two(v, d, a, b, vector::vminuw),
+                Sign::Signed => on_two(v, d, a, b, vector::vminsw),
             },
         },
         Op::Average(w, s) => match w {
             Width::Byte => match s {
-                Sign::Unsigned => vavgub(v, d, a, b),
-                Sign::Signed => vavgsb(v, d, a, b),
+                Sign::Unsigned => on_two(v, d, a, b, vector::vavgub),
+                Sign::Signed => on_two(v, d, a, b, vector::vavgsb),
             },
             Width::Half => match s {
-                Sign::Unsigned => vavguh(v, d, a, b),
-                Sign::Signed => vavgsh(v, d, a, b),
+                Sign::Unsigned => on_two(v, d, a, b, vector::vavguh),
+                Sign::Signed => on_two(v, d, a, b, vector::vavgsh),
             },
             Width::Word => match s {
-                Sign::Unsigned => vavguw(v, d, a, b),
-                Sign::Signed => vavgsw(v, d, a, b),
+                Sign::Unsigned => on_two(v, d, a, b, vector::vavguw),
+                Sign::Signed => on_two(v, d, a, b, vector::vavgsw),
             },
         },
         Op::Rotate(w) => match w {
-            Width::Byte => vrlb(v, d, a, b),
-            Width::Half => vrlh(v, d, a, b),
-            Width::Word => vrlw(v, d, a, b),
+            Width::Byte => on_two(v, d, a, b, vector::vrlb),
+            Width::Half => on_two(v, d, a, b, vector::vrlh),
+            Width::Word => on_two(v, d, a, b, vector::vrlw),
         },
         Op::ShiftLeft(w) => match w {
-            Width::Byte => vslb(v, d, a, b),
-            Width::Half => vslh(v, d, a, b),
-            Width::Word => vslw(v, d, a, b),
+            Width::Byte => on_two(v, d, a, b, vector::vslb),
+            Width::Half => on_two(v, d, a, b, vector::vslh),
+            Width::Word => on_two(v, d, a, b, vector::vslw),
         },
         Op::ShiftRight(w) => match w {
-            Width::Byte => vsrb(v, d, a, b),
-            Width::Half => vsrh(v, d, a, b),
-            Width::Word => vsrw(v, d, a, b),
+            Width::Byte => on_two(v, d, a, b, vector::vsrb),
+            Width::Half => on_two(v, d, a, b, vector::vsrh),
+            Width::Word => on_two(v, d, a, b, vector::vsrw),
         },
         Op::ShiftAlgebraic(w) => match w {
-            Width::Byte => vsrab(v, d, a, b),
-            Width::Half => vsrah(v, d, a, b),
-            Width::Word => vsraw(v, d, a, b),
+            Width::Byte => on_two(v, d, a, b, vector::vsrab),
+            Width::Half => on_two(v, d, a, b, vector::vsrah),
+            Width::Word => on_two(v, d, a, b, vector::vsraw),
         },
-        Op::ShiftWholeLeft => vsl(v, d, a, b),
-        Op::ShiftWholeRight => vsr(v, d, a, b),
-        Op::ShiftBytesLeft => vslo(v, d, a, b),
-        Op::ShiftBytesRight => vsro(v, d, a, b),
-        Op::And => vand(v, d, a, b),
-        Op::AndNot => vandc(v, d, a, b),
-        Op::Or => vor(v, d, a, b),
-        Op::Xor => vxor(v, d, a, b),
-        Op::Nor => vnor(v, d, a, b),
+        Op::ShiftWholeLeft => on_two(v, d, a, b, moves::vsl),
+        Op::ShiftWholeRight => on_two(v, d, a, b, moves::vsr),
+        Op::ShiftBytesLeft => on_two(v, d, a, b, slides::vslo),
+        Op::ShiftBytesRight => on_two(v, d, a, b, slides::vsro),
+        Op::And => on_two(v, d, a, b, vector::vand),
+        Op::AndNot => on_two(v, d, a, b, vector::vandc),
+        Op::Or => on_two(v, d, a, b, vector::vor),
+        Op::Xor => on_two(v, d, a, b, vector::vxor),
+        Op::Nor => on_two(v, d, a, b, vector::vnor),
         Op::FromStatus => copy(v, d, a),
         Op::ToStatus => copy(v, d, a),
         Op::MulOdd(w, s) => match w {
             Width::Byte => match s {
-                Sign::Unsigned => vmuloub(v, d, a, b),
-                Sign::Signed => vmulosb(v, d, a, b),
+                Sign::Unsigned => on_two(v, d, a, b, vector::vmuloub),
+                Sign::Signed => on_two(v, d, a, b, vector::vmulosb),
             },
             Width::Half => match s {
-                Sign::Unsigned => vmulouh(v, d, a, b),
-                Sign::Signed => vmulosh(v, d, a, b),
+                Sign::Unsigned => on_two(v, d, a, b, vector::vmulouh),
+                Sign::Signed => on_two(v, d, a, b, vector::vmulosh),
             },
             Width::Word => copy(v, d, a),
         },
         Op::MulEven(w, s) => match w {
             Width::Byte => match s {
-                Sign::Unsigned => vmuleub(v, d, a, b),
-                Sign::Signed => vmulesb(v, d, a, b),
+                Sign::Unsigned => on_two(v, d, a, b, vector::vmuleub),
+                Sign::Signed => on_two(v, d, a, b, vector::vmulesb),
             },
             Width::Half => match s {
-                Sign::Unsigned => vmuleuh(v, d, a, b),
-                Sign::Signed => vmulesh(v, d, a, b),
+                Sign::Unsigned => on_two(v, d, a, b, vector::vmuleuh),
+                Sign::Signed => on_two(v, d, a, b, vector::vmulesh),
             },
             Width::Word => copy(v, d, a),
         },
         Op::SumQuarter(w, s) => match w {
             Width::Byte => match s {
-                Sign::Unsigned => vsum4ubs(v, d, a, b),
-                Sign::Signed => vsum4sbs(v, d, a, b),
+                Sign::Unsigned => on_two(v, d, a, b, vector::vsum4ubs),
+                Sign::Signed => on_two(v, d, a, b, vector::vsum4sbs),
             },
             Width::Half => match s {
                 Sign::Unsigned => copy(v, d, a),
-                Sign::Signed => vsum4shs(v, d, a, b),
+                Sign::Signed => on_two(v, d, a, b, vector::vsum4shs),
             },
             Width::Word => copy(v, d, a),
         },
-        Op::SumHalf => vsum2sws(v, d, a, b),
-        Op::SumAll => vsumsws(v, d, a, b),
+        Op::SumHalf => on_two(v, d, a, b, packing::vsum2sws),
+        Op::SumAll => on_two(v, d, a, b, packing::vsumsws),
         Op::MergeHigh(w) => match w {
-            Width::Byte => vmrghb(v, d, a, b),
-            Width::Half => vmrghh(v, d, a, b),
-            Width::Word => vmrghw(v, d, a, b),
+            Width::Byte => on_two(v, d, a, b, moves::vmrghb),
+            Width::Half => on_two(v, d, a, b, moves::vmrghh),
+            Width::Word => on_two(v, d, a, b, moves::vmrghw),
         },
         Op::MergeLow(w) => match w {
-            Width::Byte => vmrglb(v, d, a, b),
-            Width::Half => vmrglh(v, d, a, b),
-            Width::Word => vmrglw(v, d, a, b),
+            Width::Byte => on_two(v, d, a, b, moves::vmrglb),
+            Width::Half => on_two(v, d, a, b, moves::vmrglh),
+            Width::Word => on_two(v, d, a, b, moves::vmrglw),
         },
         Op::Splat(w) => match w {
-            Width::Byte => vspltb(v, d, b, a as u8),
-            Width::Half => vsplth(v, d, b, a as u8),
-            Width::Word => vspltw(v, d, b, a as u8),
+            Width::Byte => on_one(
+                v,
+                d,
+                b,
+                |y: [u8; 16]| -> [u8; 16]
+                    ensures { result ≡ splat Size.Byte y i }
+                { moves::vspltb(y, i) },
+            ),
+            Width::Half => on_one(
+                v,
+                d,
+                b,
+                |y: [u8; 16]| -> [u8; 16]
+                    ensures { result ≡ splat Size.Half y i }
+                { moves::vsplth(y, i) },
+            ),
+            Width::Word => on_one(
+                v,
+                d,
+                b,
+                |y: [u8; 16]| -> [u8; 16]
+                    ensures { result ≡ splat Size.Word y i }
+                { moves::vspltw(y, i) },
+            ),
         },
         Op::SplatImmediate(w) => match w {
-            Width::Byte => vspltisb(v, d, a as u8),
-            Width::Half => vspltish(v, d, a as u8),
-            Width::Word => vspltisw(v, d, a as u8),
+            Width::Byte => vector::vspltisb(i).put(v, d),
+            Width::Half => vector::vspltish(i).put(v, d),
+            Width::Word => vector::vspltisw(i).put(v, d),
         },
         Op::PackMod(w) => match w {
             Width::Byte => copy(v, d, a),
-            Width::Half => vpkuhum(v, d, a, b),
-            Width::Word => vpkuwum(v, d, a, b),
+            Width::Half => on_two(v, d, a, b, packing::vpkuhum),
+            Width::Word => on_two(v, d, a, b, packing::vpkuwum),
         },
         Op::PackSat(w, s, t) => match w {
             Width::Byte => copy(v, d, a),
             Width::Half => match s {
                 Sign::Unsigned => match t {
-                    Sign::Unsigned => vpkuhus(v, d, a, b),
+                    Sign::Unsigned => on_two(v, d, a, b, packing::vpkuhus),
                     Sign::Signed => copy(v, d, a),
                 },
                 Sign::Signed => match t {
-                    Sign::Unsigned => vpkshus(v, d, a, b),
-                    Sign::Signed => vpkshss(v, d, a, b),
+                    Sign::Unsigned => on_two(v, d, a, b, packing::vpkshus),
+                    Sign::Signed => on_two(v, d, a, b, packing::vpkshss),
                 },
             },
             Width::Word => match s {
                 Sign::Unsigned => match t {
-                    Sign::Unsigned => vpkuwus(v, d, a, b),
+                    Sign::Unsigned => on_two(v, d, a, b, packing::vpkuwus),
                     Sign::Signed => copy(v, d, a),
                 },
                 Sign::Signed => match t {
-                    Sign::Unsigned => vpkswus(v, d, a, b),
-                    Sign::Signed => vpkswss(v, d, a, b),
+                    Sign::Unsigned => on_two(v, d, a, b, packing::vpkswus),
+                    Sign::Signed => on_two(v, d, a, b, packing::vpkswss),
                 },
             },
         },
         Op::UnpackHigh(w) => match w {
-            Width::Byte => vupkhsb(v, d, b),
-            Width::Half => vupkhsh(v, d, b),
+            Width::Byte => on_one(v, d, b, packing::vupkhsb),
+            Width::Half => on_one(v, d, b, packing::vupkhsh),
             Width::Word => copy(v, d, b),
         },
         Op::UnpackLow(w) => match w {
-            Width::Byte => vupklsb(v, d, b),
-            Width::Half => vupklsh(v, d, b),
+            Width::Byte => on_one(v, d, b, packing::vupklsb),
+            Width::Half => on_one(v, d, b, packing::vupklsh),
             Width::Word => copy(v, d, b),
         },
         Op::CompareEqual(w) => match w {
-            Width::Byte => vcmpequb(v, d, a, b),
-            Width::Half => vcmpequh(v, d, a, b),
-            Width::Word => vcmpequw(v, d, a, b),
+            Width::Byte => on_two(v, d, a, b, vector::vcmpequb),
+            Width::Half => on_two(v, d, a, b, vector::vcmpequh),
+            Width::Word => on_two(v, d, a, b, vector::vcmpequw),
         },
         Op::CompareGreater(w, s) => match w {
             Width::Byte => match s {
-                Sign::Unsigned => vcmpgtub(v, d, a, b),
-                Sign::Signed => vcmpgtsb(v, d, a, b),
+                Sign::Unsigned => on_two(v, d, a, b, vector::vcmpgtub),
+                Sign::Signed => on_two(v, d, a, b, vector::vcmpgtsb),
             },
             Width::Half => match s {
-                Sign::Unsigned => vcmpgtuh(v, d, a, b),
-                Sign::Signed => vcmpgtsh(v, d, a, b),
+                Sign::Unsigned => on_two(v, d, a, b, vector::vcmpgtuh),
+                Sign::Signed => on_two(v, d, a, b, vector::vcmpgtsh),
             },
             Width::Word => match s {
-                Sign::Unsigned => vcmpgtuw(v, d, a, b),
-                Sign::Signed => vcmpgtsw(v, d, a, b),
+                Sign::Unsigned => on_two(v, d, a, b, vector::vcmpgtuw),
+                Sign::Signed => on_two(v, d, a, b, vector::vcmpgtsw),
             },
         },
-        Op::MulHighAdd => vmhaddshs(v, d, a, b, c),
-        Op::MulHighRoundAdd => vmhraddshs(v, d, a, b, c),
-        Op::MulLowAdd => vmladduhm(v, d, a, b, c),
+        Op::MulHighAdd => on_three(v, d, a, b, c, vector::vmhaddshs),
+        Op::MulHighRoundAdd => on_three(v, d, a, b, c, vector::vmhraddshs),
+        Op::MulLowAdd => on_three(v, d, a, b, c, vector::vmladduhm),
         Op::MulSum(w, s) => match w {
             Width::Byte => match s {
-                Sign::Unsigned => vmsumubm(v, d, a, b, c),
+                Sign::Unsigned => on_three(v, d, a, b, c, vector::vmsumubm),
                 Sign::Signed => copy(v, d, a),
             },
             Width::Half => match s {
-                Sign::Unsigned => vmsumuhm(v, d, a, b, c),
-                Sign::Signed => vmsumshm(v, d, a, b, c),
+                Sign::Unsigned => on_three(v, d, a, b, c, vector::vmsumuhm),
+                Sign::Signed => on_three(v, d, a, b, c, vector::vmsumshm),
             },
             Width::Word => copy(v, d, a),
         },
-        Op::MulSumMixed => vmsummbm(v, d, a, b, c),
+        Op::MulSumMixed => on_three(v, d, a, b, c, vector::vmsummbm),
         Op::MulSumSat(s) => match s {
-            Sign::Unsigned => vmsumuhs(v, d, a, b, c),
-            Sign::Signed => vmsumshs(v, d, a, b, c),
+            Sign::Unsigned => on_three(v, d, a, b, c, vector::vmsumuhs),
+            Sign::Signed => on_three(v, d, a, b, c, vector::vmsumshs),
         },
-        Op::Select => vsel(v, d, a, b, c),
-        Op::Permute => vperm(v, d, a, b, c),
-        Op::ShiftPair => vsldoi(v, d, a, b, n),
+        Op::Select => on_three(v, d, a, b, c, vector::vsel),
+        Op::Permute => on_three(v, d, a, b, c, moves::vperm),
+        Op::ShiftPair => on_two(
+            v,
+            d,
+            a,
+            b,
+            |x: [u8; 16], y: [u8; 16]| -> [u8; 16]
+                ensures { result ≡ slid x y (n % 16) }
+            { slides::vsldoi(x, y, n) },
+        ),
         Op::LoadShiftLeft => copy(v, d, a),
         Op::LoadShiftRight => copy(v, d, a),
         Op::LoadElement(_) => copy(v, d, a),

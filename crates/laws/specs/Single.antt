@@ -18,3 +18,7 @@ OneLeft n ps r P A left =
 -- what an equation speaks of: its left side
 abbrev pub left_of : {A : Type 0} {x y : A} → x ≡ y → A
 left_of {x = x} e = x
+
+-- at most one value is as P says
+abbrev pub Sole : {R : Type 0} → (R → Type 0) → Type 0
+Sole {R} P = (r r' : R) → P r → P r' → r ≡ r'

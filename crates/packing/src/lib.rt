@@ -2,9 +2,9 @@
 #![tactic(auto)]
 
 mod narrowed;
-mod packs;
-mod sums;
-mod unpacks;
+pub mod packs;
+pub mod sums;
+pub mod unpacks;
 
 pub use packs::{vpkshss, vpkshus, vpkswss, vpkswus, vpkuhum, vpkuhus, vpkuwum, vpkuwus};
 pub use sums::{vsum2sws, vsumsws};

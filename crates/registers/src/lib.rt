@@ -1,71 +1,84 @@
-// A result goes into a register of the machine's vectors, which are lent: every vector instruction ends here. All sources are read before.
+// Any instruction by value, on the registers of the machine's vectors, which are lent: all sources are read before register D is written.
 // Vector n is bytes 16 n to 16 n + 15 of v. What is returned are the marks.
 #![tactic(auto)]
 
-ghost use Rattle.std.specs.Prelude.{◌≡◌, false, ◌<◌};
-ghost use Rattle.lanes.specs.Operations.{applied, clips};
-ghost use Rattle.registers.specs.Registers.{at, bare, of_three, Leaves, Holds};
+ghost use Rattle.std.specs.Prelude.{◌<◌, ◌*◌};
+ghost use Rattle.lanes.specs.declared.Marked.{Marked};
+ghost use Rattle.registers.specs.Registers.{at, bare, Leaves};
 
-use lanes::{Marked, Op, Size};
-use lines::set_vector;
+use lanes::Marked;
+use lines::{set_vector, vector};
 
-// Register d becomes the bytes of r; its marks.
-pub fn write(v: &mut [u8; 512], d: usize, r: Marked) -> u32
-    requires { d < 32 }
-    ensures { Leaves r d v.old v.new result }
-{
-    let x = r.bytes;
-    set_vector(v, d, x);
-    r.marks
+// What an instruction gives: bytes with marks, or bytes with none.
+pub trait Outcome: Copy {
+    ghost marked: { Self → Marked };
+
+    // Register d becomes its bytes; its marks.
+    fn put(self, v: &mut [u8; 512], d: usize) -> u32
+        requires { d < 32 }
+        ensures { Leaves (marked self) d v.old v.new result };
 }
 
-// The same of bytes with no mark.
-pub fn write_bare(v: &mut [u8; 512], d: usize, x: [u8; 16]) -> u32
-    requires { d < 32 }
-    ensures { Leaves (bare x) d v.old v.new result }
-{
-    set_vector(v, d, x);
-    0
+impl Outcome for Marked {
+    ghost marked = { λ r. r };
+
+    fn put(self, v: &mut [u8; 512], d: usize) -> u32 {
+        let x = self.bytes;
+        set_vector(v, d, x);
+        self.marks
+    }
 }
 
-// The result of an operation at the lanes of the registers a, b and c. Size, operation and what was read stand for the contract alone.
-pub fn marked(
+impl Outcome for [u8; 16] {
+    ghost marked = { λ r. bare r };
+
+    fn put(self, v: &mut [u8; 512], d: usize) -> u32 {
+        set_vector(v, d, self);
+        0
+    }
+}
+
+// The instruction f of register a goes into register d.
+pub fn on_one<R: Outcome, F: Fn([u8; 16]) -> R>(v: &mut [u8; 512], d: usize, a: usize, f: F) -> u32
+    requires inside { (d < 32) × (a < 32) }
+    requires can { F.pre f (at v.old a) }
+    ensures { (r : R) × F.post f (at v.old a) r × Leaves (R.marked r) d v.old v.new result }
+{
+    let r = f(vector(v, a));
+    r.put(v, d)
+}
+
+// The same of two registers.
+pub fn on_two<R: Outcome, F: Fn([u8; 16], [u8; 16]) -> R>(
+    v: &mut [u8; 512],
+    d: usize,
+    a: usize,
+    b: usize,
+    f: F,
+) -> u32
+    requires inside { (d < 32) × (a < 32) × (b < 32) }
+    requires can { F.pre f (at v.old a) (at v.old b) }
+    ensures { (r : R) × F.post f (at v.old a) (at v.old b) r × Leaves (R.marked r) d v.old v.new result }
+{
+    let r = f(vector(v, a), vector(v, b));
+    r.put(v, d)
+}
+
+// The same of three.
+pub fn on_three<R: Outcome, F: Fn([u8; 16], [u8; 16], [u8; 16]) -> R>(
     v: &mut [u8; 512],
     d: usize,
     a: usize,
     b: usize,
     c: usize,
-    size: Size,
-    op: Op,
-    x: [u8; 16],
-    y: [u8; 16],
-    z: [u8; 16],
-    r: Marked,
+    f: F,
 ) -> u32
-    requires { (d < 32) × Holds v.old a b c x y z × (r ≡ applied size op x y z) }
-    ensures { Leaves (of_three size op v.old a b c) d v.old v.new result }
+    requires inside { (d < 32) × (a < 32) × (b < 32) × (c < 32) }
+    requires can { F.pre f (at v.old a) (at v.old b) (at v.old c) }
+    ensures { (r : R) × F.post f (at v.old a) (at v.old b) (at v.old c) r × Leaves (R.marked r) d v.old v.new result }
 {
-    write(v, d, r)
-}
-
-// The same of an operation that cannot clip.
-pub fn unmarked(
-    v: &mut [u8; 512],
-    d: usize,
-    a: usize,
-    b: usize,
-    c: usize,
-    size: Size,
-    op: Op,
-    x: [u8; 16],
-    y: [u8; 16],
-    z: [u8; 16],
-    bytes: [u8; 16],
-) -> u32
-    requires { (d < 32) × (clips op ≡ false) × Holds v.old a b c x y z × (bytes ≡ (applied size op x y z).bytes) }
-    ensures { Leaves (of_three size op v.old a b c) d v.old v.new result }
-{
-    write_bare(v, d, bytes)
+    let r = f(vector(v, a), vector(v, b), vector(v, c));
+    r.put(v, d)
 }
 
 // A register as it is.
@@ -73,6 +86,5 @@ pub fn copy(v: &mut [u8; 512], d: usize, a: usize) -> u32
     requires { (d < 32) × (a < 32) }
     ensures { Leaves (bare (at v.old a)) d v.old v.new result }
 {
-    let x = lines::vector(v, a);
-    write_bare(v, d, x)
+    vector(v, a).put(v, d)
 }
