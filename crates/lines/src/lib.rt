@@ -5,29 +5,23 @@ ghost use Rattle.std.specs.Prelude.{◌≡◌, ◌+◌, ◌*◌, ◌≤◌, ◌<
 ghost use Rattle.lines.specs.Lines.{sixteen, put, loaded_of, stored_of};
 
 // The sixteen bytes of s from place o on.
+#[tactic(auto, unfolding(crate::specs::Lines::part))]
 pub fn load(s: &[u8], o: usize) -> [u8; 16]
     requires { o + 16 ≤ length s.now }
     ensures { result ≡ sixteen s.now o }
 {
     let mut x = [0u8; 16];
-    let mut i = 0;
-    while i < 16 {
-        x[i] = s[o + i];
-        i += 1;
-    }
+    x.copy_from_slice(&s[o..o + 16]);
     x
 }
 
 // The sixteen bytes of x go into s from place o on.
+#[tactic(auto, using(crate::proofs::Copying::over))]
 pub fn store(s: &mut [u8], o: usize, x: [u8; 16])
     requires { o + 16 ≤ length s.old }
     ensures { s.new ≡ put s.old o x }
 {
-    let mut i = 0;
-    while i < 16 {
-        s[o + i] = x[i];
-        i += 1;
-    }
+    s[o..o + 16].copy_from_slice(&x);
 }
 
 // An element load: of the line of s at place o, the n bytes at place e, where they stand; the other bytes are zero.
@@ -35,13 +29,9 @@ pub fn load_element(s: &[u8], o: usize, e: usize, n: usize) -> [u8; 16]
     requires { (o + 16 ≤ length s.now) × (e + n ≤ 16) }
     ensures { result ≡ loaded_of s.now o e n }
 {
-    let mut x = [0u8; 16];
     let from = o + e;
-    let mut i = 0;
-    while i < n {
-        x[e + i] = s[from + i];
-        i += 1;
-    }
+    let mut x = [0u8; 16];
+    x[e..e + n].copy_from_slice(&s[from..from + n]);
     x
 }
 
@@ -51,11 +41,7 @@ pub fn store_element(s: &mut [u8], o: usize, e: usize, n: usize, x: [u8; 16])
     ensures { s.new ≡ stored_of s.old o e n x }
 {
     let at = o + e;
-    let mut k = 0;
-    while k < n {
-        s[at + k] = x[e + k];
-        k += 1;
-    }
+    s[at..at + n].copy_from_slice(&x[e..e + n]);
 }
 
 // Vector n.

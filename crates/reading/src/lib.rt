@@ -3,52 +3,22 @@
 
 pub mod numbers;
 
-ghost use Rattle.std.specs.Prelude.{◌+◌, ◌*◌, ◌<◌, ◌≡◌};
-ghost use Rattle.reading.specs.Words.{word_of, Fills};
+ghost use Rattle.std.specs.Prelude.{IfSome};
+ghost use Rattle.reading.specs.Words.{Fills};
 ghost use Rattle.lines.specs.Lines.{Counts};
 
-// Whether bytes were whole words, and how many.
-#[derive(Clone, Copy)]
-pub struct Filled {
-    pub good: bool,
-    pub count: usize,
-}
-
-fn wide(b: u8) -> u32
-    ensures { result ≡ b }
-{
-    b as u32
-}
-
-fn word(a: u8, b: u8, c: u8, d: u8) -> u32
-    ensures { result ≡ word_of a b c d }
-{
-    wide(a) * 16777216 + wide(b) * 65536 + wide(c) * 256 + wide(d)
-}
-
-// Bytes as words, the most significant byte first, at the start of code. It refuses a length that is no multiple of 4, and
-// more words than code has places; code is then as it was.
-pub fn words(bytes: &[u8], code: &mut [u32]) -> Filled
+// Bytes as words, the most significant byte first, at the start of code, and how many. It refuses a length that is no multiple of 4,
+// and more words than code has places; code is then as it was.
+pub fn words(bytes: &[u8], code: &mut [u32]) -> Option<usize>
     ensures fills { Fills bytes.now code.old result code.new }
-    ensures counts { Counts result.count code.new }
+    ensures counts { IfSome result (λ n. Counts n code.new) }
 {
-    let n = bytes.len() / 4;
-    if bytes.len() % 4 == 0 {
-        if n <= code.len() {
-            let mut i = 0;
-            while i < n {
-                let at = 4 * i;
-                code[i] = word(bytes[at], bytes[at + 1], bytes[at + 2], bytes[at + 3]);
-                i += 1;
-            }
-            return Filled {
-                good: true,
-                count: n,
-            };
-        }
+    let (fours, rest) = bytes.as_chunks::<4>();
+    if !rest.is_empty() || code.len() < fours.len() {
+        return None;
     }
-    Filled {
-        good: false,
-        count: 0,
+    for (i, four) in fours.iter().enumerate() {
+        code[i] = u32::from_be_bytes(*four);
     }
+    Some(fours.len())
 }

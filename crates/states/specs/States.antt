@@ -1,7 +1,7 @@
 -- A machine as 660 bytes: thirty-two quad words in register order, the quad word that mfvscr and stvx would leave, thirty-two general registers and
 -- the condition register, with CR6 in its bits 24 to 27; each of these words with its most significant byte first.
 -- Assumes nothing.
-use Rattle.std.specs.Prelude.{ℕ, ◌*◌, ◌/◌, ◌%◌, true, false, cond, List, [], ◌∷◌, ◌++◌, length, get_or, replicate, eqb}
+use Rattle.std.specs.Prelude.{ℕ, ◌*◌, ◌/◌, ◌%◌, false, cond, List, [], ◌∷◌, ◌++◌, length, get_or, replicate, eqb, Option, Some, None}
 use Rattle.lines.specs.Lines.{part}
 use Rattle.flags.specs.Flags.{status_of, from_status}
 use Rattle.flags.specs.declared.Flags.{Flags}
@@ -9,7 +9,6 @@ use Rattle.machine.specs.declared.Machine.{Machine}
 use Rattle.machine.specs.Runs.{machine_of, flags_in}
 use Rattle.texts.specs.Texts.{word_bytes}
 use Rattle.reading.specs.Words.{words_of}
-use Rattle.states.specs.declared.Loaded.{Loaded}
 
 -- the condition register
 abbrev pub condition_of : ℕ → List ℕ
@@ -30,6 +29,5 @@ unfoldable pub at_rest : Machine
 at_rest = record { v = replicate 512 0; g = replicate 32 0; nj = false; sat = false; cr6 = 0 }
 
 -- a state of another length is refused
-unfoldable pub loaded_of : List ℕ → Loaded
-loaded_of bytes =
-    cond (eqb (length bytes) 660) (record { good = true; m = from_state bytes }) (record { good = false; m = at_rest })
+unfoldable pub loaded_of : List ℕ → Option Machine
+loaded_of bytes = cond (eqb (length bytes) 660) (Some (from_state bytes)) None

@@ -11,16 +11,10 @@ use flags::{Flags, from_status, status};
 use lines::load;
 use machine::Machine;
 use reading::words;
-use texts::{add, add_words};
-
-// A machine, and whether there were bytes for it.
-#[derive(Clone, Copy)]
-pub struct Loaded {
-    pub good: bool,
-    pub m: Machine,
-}
+use texts::put_words;
 
 // All registers and bits zero.
+#[tactic(auto, unfolding(crate::specs::States::at_rest))]
 pub fn at_rest() -> Machine
     ensures { result ≡ at_rest }
 {
@@ -33,12 +27,13 @@ pub fn at_rest() -> Machine
     }
 }
 
+#[tactic(auto, unfolding(lines::specs::Lines::part))]
 fn vectors(bytes: &[u8]) -> [u8; 512]
     requires { 512 ≤ length bytes.now }
     ensures { result ≡ part bytes.now 0 512 }
 {
     let mut v = [0u8; 512];
-    add(&mut v, 0, &bytes[..512]);
+    v.copy_from_slice(&bytes[..512]);
     v
 }
 
@@ -51,6 +46,7 @@ fn generals(bytes: &[u8]) -> [u32; 32]
     g
 }
 
+#[tactic(auto, unfolding(crate::specs::States::from_state))]
 fn taken(bytes: &[u8]) -> Machine
     requires { 660 ≤ length bytes.now }
     ensures { result ≡ from_state bytes.now }
@@ -65,47 +61,41 @@ fn taken(bytes: &[u8]) -> Machine
     };
     let f = from_status(x, rest);
     Machine {
-        v: v,
-        g: g,
+        v,
+        g,
         nj: f.nj,
         sat: f.sat,
         cr6: f.cr6,
     }
 }
 
-// The machine of 660 bytes; any other number of them is refused, with a machine of zeros. Bits that stand for nothing are not looked at.
-pub fn machine_of(bytes: &[u8]) -> Loaded
+// The machine of 660 bytes; any other number of them is refused. Bits that stand for nothing are not looked at.
+#[tactic(auto, unfolding(crate::specs::States::loaded_of))]
+pub fn machine_of(bytes: &[u8]) -> Option<Machine>
     ensures { result ≡ loaded_of bytes.now }
 {
     if bytes.len() == 660 {
-        let m = taken(bytes);
-        return Loaded { good: true, m: m };
+        Some(taken(bytes))
+    } else {
+        None
     }
-    let m = at_rest();
-    Loaded { good: false, m: m }
 }
 
 fn join(v: [u8; 512], x: [u8; 16], g: [u32; 32], condition: [u8; 4], out: &mut [u8; 660])
     ensures { out.new ≡ v ++ x ++ word_bytes g ++ condition }
 {
-    let a = add(out, 0, &v);
-    let b = add(out, a, &x);
-    let c = add_words(out, b, &g);
-    add(out, c, &condition);
+    out[..512].copy_from_slice(&v);
+    out[512..528].copy_from_slice(&x);
+    put_words(&g, &mut out[528..656]);
+    out[656..].copy_from_slice(&condition);
 }
 
 // The 660 bytes of a machine.
+#[tactic(auto, unfolding(crate::specs::States::state_of))]
 pub fn state_of(m: Machine, out: &mut [u8; 660])
     ensures { out.new ≡ state_of m }
 {
-    let v = m.v;
-    let g = m.g;
-    let flags = Flags {
-        nj: m.nj,
-        sat: m.sat,
-        cr6: m.cr6,
-    };
-    let x = status(flags);
-    let condition = [0, 0, 0, m.cr6 % 16 * 16];
-    join(v, x, g, condition, out);
+    let Machine { v, g, nj, sat, cr6 } = m;
+    let x = status(Flags { nj, sat, cr6 });
+    join(v, x, g, [0, 0, 0, cr6 % 16 * 16], out);
 }

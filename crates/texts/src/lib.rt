@@ -1,65 +1,97 @@
-// The lines that the programs print, made in a buffer that is lent, and what they are made of: document 01, "Examples to hold against the rules".
+// The lines that the programs print, and bytes in hex: the text of each type is its definition; and words as bytes.
 #![tactic(auto)]
 
-mod adding;
-mod digits;
+ghost use Rattle.std.specs.Prelude.{◌≡◌, ◌*◌, Some, length};
+ghost use Rattle.texts.specs.Texts.{hex_of, word_bytes, report_line, vector_line, general_line};
 
-ghost use Rattle.texts.specs.Texts.{report_line, vector_line, general_line};
-ghost use Rattle.texts.specs.Writing.{Adds};
-ghost use Rattle.lines.specs.Lines.{Counts};
+use std::fmt;
 
-pub use adding::{add, add_hex, add_words};
-use adding::{add_bit, add_decimal, add_four_bits};
+// Bytes in hex.
+#[derive(Clone, Copy)]
+pub struct Hex<'a>(pub &'a [u8]);
 
-// How a run ended: its number, the words completed, the next place, SAT, NJ and CR6. The result is the line's length.
-pub fn report_line(
-    number: u32,
-    count: u32,
-    place: u32,
-    sat: bool,
-    nj: bool,
-    cr6: u8,
-    out: &mut [u8; 80],
-) -> usize
-    ensures adds { Adds out.old 0 (report_line number count place sat nj cr6) result out.new }
-    ensures counts { Counts result out.new }
-{
-    let a = add(out, 0, b"answer ");
-    let b = add_decimal(out, a, number);
-    let c = add(out, b, b" steps ");
-    let d = add_decimal(out, c, count);
-    let e = add(out, d, b" place ");
-    let f = add_decimal(out, e, place);
-    let g = add(out, f, b" sat ");
-    let h = add_bit(out, g, sat);
-    let i = add(out, h, b" nj ");
-    let j = add_bit(out, i, nj);
-    let k = add(out, j, b" cr6 ");
-    let l = add_four_bits(out, k, cr6);
-    add(out, l, b"\n")
+impl fmt::Display for Hex<'_> {
+    ghost output = { λ h. Some (hex_of h.0.now) };
+
+    fn fmt<W: fmt::Write>(&self, f: &mut fmt::Formatter<W>) -> fmt::Result {
+        let Hex(bytes) = *self;
+        for b in bytes {
+            let b = *b;
+            write!(f, "{b:02x}")?;
+        }
+        Ok(())
+    }
 }
 
-// Vector n: its number after `v`, and its bytes in hex. The result is the line's length.
-pub fn vector_line(n: u32, x: [u8; 16], out: &mut [u8; 80]) -> usize
-    ensures adds { Adds out.old 0 (vector_line n x) result out.new }
-    ensures counts { Counts result out.new }
-{
-    let a = add(out, 0, b"v");
-    let b = add_decimal(out, a, n);
-    let c = add(out, b, b" ");
-    let d = add_hex(out, c, &x);
-    add(out, d, b"\n")
+// The line that tells how a run ended: its number, the words completed, the next place, SAT, NJ and CR6.
+#[derive(Clone, Copy)]
+pub struct ReportLine {
+    pub number: u32,
+    pub count: u32,
+    pub place: u32,
+    pub sat: bool,
+    pub nj: bool,
+    pub cr6: u8,
 }
 
-// General register n: its number after `r`, and its bytes in hex. The result is the line's length.
-pub fn general_line(n: u32, x: u32, out: &mut [u8; 80]) -> usize
-    ensures adds { Adds out.old 0 (general_line n x) result out.new }
-    ensures counts { Counts result out.new }
+impl fmt::Display for ReportLine {
+    ghost output = { λ r. Some (report_line r.number r.count r.place r.sat r.nj r.cr6) };
+
+    fn fmt<W: fmt::Write>(&self, f: &mut fmt::Formatter<W>) -> fmt::Result {
+        let ReportLine {
+            number,
+            count,
+            place,
+            ..
+        } = *self;
+        let sat = u8::from(self.sat);
+        let nj = u8::from(self.nj);
+        let cr6 = self.cr6 % 16;
+        writeln!(
+            f,
+            "answer {number} steps {count} place {place} sat {sat} nj {nj} cr6 {cr6:04b}"
+        )
+    }
+}
+
+// The line of a vector: its number after `v`, and its bytes in hex.
+#[derive(Clone, Copy)]
+pub struct VectorLine {
+    pub n: u32,
+    pub x: [u8; 16],
+}
+
+impl fmt::Display for VectorLine {
+    ghost output = { λ v. Some (vector_line v.n v.x) };
+
+    fn fmt<W: fmt::Write>(&self, f: &mut fmt::Formatter<W>) -> fmt::Result {
+        let VectorLine { n, x } = *self;
+        writeln!(f, "v{n} {}", Hex(&x))
+    }
+}
+
+// The line of a general register: its number after `r`, and its bytes in hex.
+#[derive(Clone, Copy)]
+pub struct GeneralLine {
+    pub n: u32,
+    pub x: u32,
+}
+
+impl fmt::Display for GeneralLine {
+    ghost output = { λ r. Some (general_line r.n r.x) };
+
+    fn fmt<W: fmt::Write>(&self, f: &mut fmt::Formatter<W>) -> fmt::Result {
+        let GeneralLine { n, x } = *self;
+        writeln!(f, "r{n} {}", Hex(&x.to_be_bytes()))
+    }
+}
+
+// The bytes of words, the most significant first.
+pub fn put_words(words: &[u32], out: &mut [u8])
+    requires { length out.old ≡ 4 * length words.now }
+    ensures { out.new ≡ word_bytes words.now }
 {
-    let bytes = digits::bytes(x);
-    let a = add(out, 0, b"r");
-    let b = add_decimal(out, a, n);
-    let c = add(out, b, b" ");
-    let d = add_hex(out, c, &bytes);
-    add(out, d, b"\n")
+    for (i, word) in words.iter().enumerate() {
+        out[4 * i..4 * i + 4].copy_from_slice(&word.to_be_bytes());
+    }
 }

@@ -1,10 +1,9 @@
--- `states::generals` meets its contract.
--- Assumes nothing.
-use Rattle.states.proofs.Whole.{thirty_two}
-use Rattle.lines.specs.Lines.{part}
+-- `generals` meets its contract.
+use Rattle.std.proofs.Common.{arith, take, drop}
+use lib.ListN.{length-drop}
 use lib.Seq.{length-take-le}
-use lib.ListN.{take, drop, length-drop}
-use native.Mathlib.Omega.{arith}
+use Rattle.lines.specs.Lines.{part}
+use Rattle.states.proofs.Whole.{thirty_two}
 use Rattle.states.proofs.generals.Goals as goal
 
 pub returns : goal.returns

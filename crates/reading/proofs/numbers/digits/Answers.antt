@@ -1,42 +1,35 @@
--- `reading::numbers::digits` meets its contract.
--- Assumes nothing.
-use Rattle.reading.proofs.DigitByDigit.{capped, more, none, end, product}
+-- `digits` meets its contract: a turn reads a digit, a character that is none ends it, and the value after the last digit fits or does not.
+use Rattle.std.proofs.Common.{Err, ◌+◌, ◌*◌, refl, sym, ap, ◌∙◌, arith, slice_index_or, drop}
+use borrow.Author.Tests.{lt-ltb, le-ltb}
+use Rattle.std.proofs.lemmas.Result.{err_from_is_err_and}
 use Rattle.reading.specs.Numbers.{digit_of, digits_of}
-use borrow.Author.Tests.{lt-ltb, le-ltb, eq-eqb, ne_eqb}
-use lib.ListN.{get_or, drop}
-use native.Mathlib.Omega.{arith}
-use mathlib.Core.Path.{refl, sym, ap, ◌∙◌}
-use Prim.Native.Nat.{◌+◌, ◌*◌, ◌≤◌, ◌<◌}
+use Rattle.reading.proofs.DigitByDigit.{capped, more, none, end}
 use Rattle.reading.proofs.numbers.digits.Goals as goal
 
-pub returns-then-text-eq0 : goal.returns-then-text-eq0
-returns-then-text-eq0 c = rw (eq-eqb _ _ c.if-text-eq0.true)
+pub returns-in_default : goal.returns-in_default
+returns-in_default c = rw (sym c.is_empty.ensures ∙ c.if-is_empty.false)
+    (sym (c.loop-c.invariant.1 ∙ none c.args.base c.args.text.now c.loop-c.v c.loop-c.c-index (omega arith) (omega (arith, c.in_default.ensures))))
 
-pub loop-i-init : goal.loop-i-init
-loop-i-init c = (omega arith, omega arith, refl)
+pub loop-c-preserved : goal.loop-c-preserved
+loop-c-preserved c =
+    let t = c.args.text.now in
+    let d = c.in-Some.ensures in
+    let m = more c.args.base t c.loop-c.v c.loop-c.c-index (omega arith) d.0 in
+    let k = capped c.args.base (drop (c.loop-c.c-index + 1) t) (c.loop-c.v * c.args.base + digit_of (slice_index_or t c.loop-c.c-index 0)) (omega arith) in (
+      c.capped-v.ensures.1,
+      c.loop-c.invariant.1 ∙ m ∙ k
+          ∙ ap (λ x. digits_of c.args.base x (drop (c.loop-c.c-index + 1) t)) (rw (c.from.ensures, c.from-in-loop-c.ensures, d.1) at (sym c.capped-v.ensures.0)),
+    )
 
-pub returns-then-base-d : goal.returns-then-base-d
-returns-then-base-d c = let t = c.args.text.now in
-    let d = c.digit-d.ensures.0 in
-    let n : c.args.base ≤ digit_of (get_or t c.loop-i.i 0) = omega (arith, d, c.if-base-d.true) in
-    rw (ne_eqb _ _ c.if-text-eq0.false) (sym (c.loop-i.invariant.2 ∙ none c.args.base t c.loop-i.v c.loop-i.i (omega arith) n))
-
-pub overflow_mul-v : goal.overflow_mul-v
-overflow_mul-v c = record { fits = let p = product c.loop-i.v c.args.base c.loop-i.invariant.1 c.requires.1 in omega arith }
-
-pub overflow_add-v : goal.overflow_add-v
-overflow_add-v c = record { fits = let p = product c.loop-i.v c.args.base c.loop-i.invariant.1 c.requires.1 in let d = c.digit-d.ensures.1 in omega arith }
-
-pub loop-i-preserved : goal.loop-i-preserved
-loop-i-preserved c = let t = c.args.text.now in
-    let d = c.digit-d.ensures.0 in
-    let n : digit_of (get_or t c.loop-i.i 0) < c.args.base = omega (arith, d, c.if-base-d.false) in
-    let m = more c.args.base t c.loop-i.v c.loop-i.i (omega arith) n in
-    let k = capped c.args.base (drop (c.loop-i.i + 1) t) (c.loop-i.v * c.args.base + digit_of (get_or t c.loop-i.i 0)) c.requires.0 in
-    (omega arith, c.capped-next.ensures.1, c.loop-i.invariant.2 ∙ m ∙ k ∙ ap (λ x. digits_of c.args.base x (drop (c.loop-i.i + 1) t)) (rw d at (sym c.capped-next.ensures.0)))
-
-pub returns-then-v-lt4294967296 : goal.returns-then-v-lt4294967296
-returns-then-v-lt4294967296 c = rw (ne_eqb _ _ c.if-text-eq0.false) (sym (c.loop-i.invariant.2 ∙ end c.args.base c.args.text.now c.loop-i.v c.loop-i.i (omega arith) ∙ rw (lt-ltb _ _ c.if-v-lt4294967296.true) refl))
+pub returns-in_err-try_from : goal.returns-in_err-try_from
+returns-in_err-try_from c =
+    let e = err_from_is_err_and c.from_residual.result c.from_residual.ensures.1 in
+    rw (sym c.is_empty.ensures ∙ c.if-is_empty.false)
+    (e.1 ∙ ap Err e.2
+    ∙ sym (c.loop-c.invariant.1 ∙ end c.args.base c.args.text.now c.loop-c.v c.loop-c.c-index (omega arith) ∙ rw (le-ltb c.loop-c.v 4294967296 (omega (arith, c.in_err-try_from.ensures))) refl))
 
 pub returns : goal.returns
-returns c = rw (ne_eqb _ _ c.if-text-eq0.false) (sym (c.loop-i.invariant.2 ∙ end c.args.base c.args.text.now c.loop-i.v c.loop-i.i (omega arith) ∙ rw (le-ltb _ _ c.if-v-lt4294967296.false) refl))
+returns c =
+    let e = c.in_ok-try_from.ensures in
+    rw (sym c.is_empty.ensures ∙ c.if-is_empty.false, e.1)
+    (sym (c.loop-c.invariant.1 ∙ end c.args.base c.args.text.now c.loop-c.v c.loop-c.c-index (omega arith) ∙ rw (lt-ltb _ _ e.0) refl))

@@ -1,13 +1,7 @@
--- `reading::numbers::digits` meets its contract.
--- Assumes nothing.
+-- `digits` meets its contract: after each digit the digits that are left, after the value so far, are the number.
+use Rattle.std.proofs.Common.{◌≡◌, ◌≤◌, drop}
 use Rattle.reading.specs.Numbers.{digits_of}
-use lib.ListN.{length, drop}
-use mathlib.Core.Path.{◌≡◌}
-use Prim.Native.Nat.{◌-◌, ◌≤◌}
 use Rattle.reading.proofs.numbers.digits.Given as goal
 
-abbrev pub invariant-loop-i : goal.invariant-loop-i
-invariant-loop-i l = (l.i ≤ length l.text) × (l.v ≤ 4294967296) × (digits_of l.base 0 l.text ≡ digits_of l.base l.v (drop l.i l.text))
-
-abbrev pub decreases-loop-i : goal.decreases-loop-i
-decreases-loop-i l = length l.text - l.i
+abbrev pub invariant-loop-c : goal.invariant-loop-c
+invariant-loop-c l = (l.v ≤ 4294967296) × (digits_of l.base 0 l.text ≡ digits_of l.base l.v (drop l.c-index l.text))
