@@ -12,22 +12,22 @@ use Rattle.moves.specs.Shifted.{shifted_left, shifted_right}
 use Rattle.packing.specs.Summed.{sum_of_two, sum_of_all}
 use Rattle.slides.specs.Slid.{slid, octets_left, octets_right}
 use Rattle.vector.specs.Copies.{copies}
-use Rattle.compute.specs.Families.{size_of, by_sign, unclipped, products, quarter_sums, product_sums, packs_modulo, packs_saturated, unpacks_high, unpacks_low}
+use Rattle.compute.specs.Families.{by_sign, unclipped, products, quarter_sums, product_sums, packs_modulo, packs_saturated, unpacks_high, unpacks_low}
 
 unfoldable pub computed : Op → List ℕ → List ℕ → List ℕ → ℕ → ℕ → Marked
-computed (AddMod w) a b c i n = applied (size_of w) lane.AddModulo a b b
+computed (AddMod w) a b c i n = applied w lane.AddModulo a b b
 computed AddCarry a b c i n = applied Word lane.AddCarry a b b
-computed (AddSat w s) a b c i n = applied (size_of w) (by_sign s lane.AddSatU lane.AddSatS) a b b
-computed (SubMod w) a b c i n = applied (size_of w) lane.SubModulo a b b
+computed (AddSat w s) a b c i n = applied w (by_sign s lane.AddSatU lane.AddSatS) a b b
+computed (SubMod w) a b c i n = applied w lane.SubModulo a b b
 computed SubCarry a b c i n = applied Word lane.SubCarry a b b
-computed (SubSat w s) a b c i n = applied (size_of w) (by_sign s lane.SubSatU lane.SubSatS) a b b
-computed (Max w s) a b c i n = applied (size_of w) (by_sign s lane.MaxU lane.MaxS) a b b
-computed (Min w s) a b c i n = applied (size_of w) (by_sign s lane.MinU lane.MinS) a b b
-computed (Average w s) a b c i n = applied (size_of w) (by_sign s lane.AvgU lane.AvgS) a b b
-computed (Rotate w) a b c i n = applied (size_of w) lane.RotateLeft a b b
-computed (ShiftLeft w) a b c i n = applied (size_of w) lane.ShiftLeft a b b
-computed (ShiftRight w) a b c i n = applied (size_of w) lane.ShiftRight a b b
-computed (ShiftAlgebraic w) a b c i n = applied (size_of w) lane.ShiftRightAlgebraic a b b
+computed (SubSat w s) a b c i n = applied w (by_sign s lane.SubSatU lane.SubSatS) a b b
+computed (Max w s) a b c i n = applied w (by_sign s lane.MaxU lane.MaxS) a b b
+computed (Min w s) a b c i n = applied w (by_sign s lane.MinU lane.MinS) a b b
+computed (Average w s) a b c i n = applied w (by_sign s lane.AvgU lane.AvgS) a b b
+computed (Rotate w) a b c i n = applied w lane.RotateLeft a b b
+computed (ShiftLeft w) a b c i n = applied w lane.ShiftLeft a b b
+computed (ShiftRight w) a b c i n = applied w lane.ShiftRight a b b
+computed (ShiftAlgebraic w) a b c i n = applied w lane.ShiftRightAlgebraic a b b
 computed ShiftWholeLeft a b c i n = unclipped (shifted_left a b)
 computed ShiftWholeRight a b c i n = unclipped (shifted_right a b)
 computed ShiftBytesLeft a b c i n = unclipped (octets_left a b)
@@ -44,16 +44,16 @@ computed (MulEven w s) a b c i n = products w (by_sign s lane.MulEvenU lane.MulE
 computed (SumQuarter w s) a b c i n = quarter_sums w s a b
 computed SumHalf a b c i n = sum_of_two a b
 computed SumAll a b c i n = sum_of_all a b
-computed (MergeHigh w) a b c i n = unclipped (merged_high (size_of w) a b)
-computed (MergeLow w) a b c i n = unclipped (merged_low (size_of w) a b)
-computed (Splat w) a b c i n = unclipped (splat (size_of w) b i)
-computed (SplatImmediate w) a b c i n = applied (size_of w) lane.SplatImmediate (copies i) (copies i) (copies i)
+computed (MergeHigh w) a b c i n = unclipped (merged_high w a b)
+computed (MergeLow w) a b c i n = unclipped (merged_low w a b)
+computed (Splat w) a b c i n = unclipped (splat w b i)
+computed (SplatImmediate w) a b c i n = applied w lane.SplatImmediate (copies i) (copies i) (copies i)
 computed (PackMod w) a b c i n = packs_modulo w a b
 computed (PackSat w s t) a b c i n = packs_saturated w s t a b
 computed (UnpackHigh w) a b c i n = unpacks_high w b
 computed (UnpackLow w) a b c i n = unpacks_low w b
-computed (CompareEqual w) a b c i n = applied (size_of w) lane.Equal a b b
-computed (CompareGreater w s) a b c i n = applied (size_of w) (by_sign s lane.GreaterU lane.GreaterS) a b b
+computed (CompareEqual w) a b c i n = applied w lane.Equal a b b
+computed (CompareGreater w s) a b c i n = applied w (by_sign s lane.GreaterU lane.GreaterS) a b b
 computed MulHighAdd a b c i n = applied Half lane.MulHighAdd a b c
 computed MulHighRoundAdd a b c i n = applied Half lane.MulHighRoundAdd a b c
 computed MulLowAdd a b c i n = applied Half lane.MulLowAdd a b c

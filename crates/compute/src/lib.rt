@@ -7,7 +7,7 @@ ghost use Rattle.slides.specs.Slid.{slid};
 ghost use Rattle.registers.specs.Registers.{at, Leaves};
 ghost use Rattle.compute.specs.Computed.{computed};
 
-use encodings::ops::{Op, Sign, Width};
+use encodings::ops::{Op, Sign};
 use lanes::Size;
 use registers::{Outcome, copy, on_one, on_three, on_two};
 
@@ -22,106 +22,106 @@ pub fn compute(v: &mut [u8; 512], d: usize, a: usize, b: usize, c: usize, n: u8,
     let i = a as u8;
     match op {
         Op::AddMod(w) => match w {
-            Width::Byte => on_two(v, d, a, b, vector::vaddubm),
-            Width::Half => on_two(v, d, a, b, vector::vadduhm),
-            Width::Word => on_two(v, d, a, b, vector::vadduwm),
+            Size::Byte => on_two(v, d, a, b, vector::vaddubm),
+            Size::Half => on_two(v, d, a, b, vector::vadduhm),
+            Size::Word => on_two(v, d, a, b, vector::vadduwm),
         },
         Op::AddCarry => on_two(v, d, a, b, vector::vaddcuw),
         Op::AddSat(w, s) => match w {
-            Width::Byte => match s {
+            Size::Byte => match s {
                 Sign::Unsigned => on_two(v, d, a, b, vector::vaddubs),
                 Sign::Signed => on_two(v, d, a, b, vector::vaddsbs),
             },
-            Width::Half => match s {
+            Size::Half => match s {
                 Sign::Unsigned => on_two(v, d, a, b, vector::vadduhs),
                 Sign::Signed => on_two(v, d, a, b, vector::vaddshs),
             },
-            Width::Word => match s {
+            Size::Word => match s {
                 Sign::Unsigned => on_two(v, d, a, b, vector::vadduws),
                 Sign::Signed => on_two(v, d, a, b, vector::vaddsws),
             },
         },
         Op::SubMod(w) => match w {
-            Width::Byte => on_two(v, d, a, b, vector::vsububm),
-            Width::Half => on_two(v, d, a, b, vector::vsubuhm),
-            Width::Word => on_two(v, d, a, b, vector::vsubuwm),
+            Size::Byte => on_two(v, d, a, b, vector::vsububm),
+            Size::Half => on_two(v, d, a, b, vector::vsubuhm),
+            Size::Word => on_two(v, d, a, b, vector::vsubuwm),
         },
         Op::SubCarry => on_two(v, d, a, b, vector::vsubcuw),
         Op::SubSat(w, s) => match w {
-            Width::Byte => match s {
+            Size::Byte => match s {
                 Sign::Unsigned => on_two(v, d, a, b, vector::vsububs),
                 Sign::Signed => on_two(v, d, a, b, vector::vsubsbs),
             },
-            Width::Half => match s {
+            Size::Half => match s {
                 Sign::Unsigned => on_two(v, d, a, b, vector::vsubuhs),
                 Sign::Signed => on_two(v, d, a, b, vector::vsubshs),
             },
-            Width::Word => match s {
+            Size::Word => match s {
                 Sign::Unsigned => on_two(v, d, a, b, vector::vsubuws),
                 Sign::Signed => on_two(v, d, a, b, vector::vsubsws),
             },
         },
         Op::Max(w, s) => match w {
-            Width::Byte => match s {
+            Size::Byte => match s {
                 Sign::Unsigned => on_two(v, d, a, b, vector::vmaxub),
                 Sign::Signed => on_two(v, d, a, b, vector::vmaxsb),
             },
-            Width::Half => match s {
+            Size::Half => match s {
                 Sign::Unsigned => on_two(v, d, a, b, vector::vmaxuh),
                 Sign::Signed => on_two(v, d, a, b, vector::vmaxsh),
             },
-            Width::Word => match s {
+            Size::Word => match s {
                 Sign::Unsigned => on_two(v, d, a, b, vector::vmaxuw),
                 Sign::Signed => on_two(v, d, a, b, vector::vmaxsw),
             },
         },
         Op::Min(w, s) => match w {
-            Width::Byte => match s {
+            Size::Byte => match s {
                 Sign::Unsigned => on_two(v, d, a, b, vector::vminub),
                 Sign::Signed => on_two(v, d, a, b, vector::vminsb),
             },
-            Width::Half => match s {
+            Size::Half => match s {
                 Sign::Unsigned => on_two(v, d, a, b, vector::vminuh),
                 Sign::Signed => on_two(v, d, a, b, vector::vminsh),
             },
-            Width::Word => match s {
+            Size::Word => match s {
                 Sign::Unsigned => on_two(v, d, a, b, vector::vminuw),
                 Sign::Signed => on_two(v, d, a, b, vector::vminsw),
             },
         },
         Op::Average(w, s) => match w {
-            Width::Byte => match s {
+            Size::Byte => match s {
                 Sign::Unsigned => on_two(v, d, a, b, vector::vavgub),
                 Sign::Signed => on_two(v, d, a, b, vector::vavgsb),
             },
-            Width::Half => match s {
+            Size::Half => match s {
                 Sign::Unsigned => on_two(v, d, a, b, vector::vavguh),
                 Sign::Signed => on_two(v, d, a, b, vector::vavgsh),
             },
-            Width::Word => match s {
+            Size::Word => match s {
                 Sign::Unsigned => on_two(v, d, a, b, vector::vavguw),
                 Sign::Signed => on_two(v, d, a, b, vector::vavgsw),
             },
         },
         Op::Rotate(w) => match w {
-            Width::Byte => on_two(v, d, a, b, vector::vrlb),
-            Width::Half => on_two(v, d, a, b, vector::vrlh),
-            Width::Word => on_two(v, d, a, b, vector::vrlw),
+            Size::Byte => on_two(v, d, a, b, vector::vrlb),
+            Size::Half => on_two(v, d, a, b, vector::vrlh),
+            Size::Word => on_two(v, d, a, b, vector::vrlw),
         },
         Op::ShiftLeft(w) => match w {
-            Width::Byte => on_two(v, d, a, b, vector::vslb),
-            Width::Half => on_two(v, d, a, b, vector::vslh),
-            Width::Word => on_two(v, d, a, b, vector::vslw),
+            Size::Byte => on_two(v, d, a, b, vector::vslb),
+            Size::Half => on_two(v, d, a, b, vector::vslh),
+            Size::Word => on_two(v, d, a, b, vector::vslw),
         },
         Op::ShiftRight(w) => match w {
-            Width::Byte => on_two(v, d, a, b, vector::vsrb),
-            Width::Half => on_two(v, d, a, b, vector::vsrh),
-            Width::Word => on_two(v, d, a, b, vector::vsrw),
+            Size::Byte => on_two(v, d, a, b, vector::vsrb),
+            Size::Half => on_two(v, d, a, b, vector::vsrh),
+            Size::Word => on_two(v, d, a, b, vector::vsrw),
         },
         Op::ShiftAlgebraic(w) => match w {
-            Width::Byte => on_two(v, d, a, b, vector::vsrab),
-            Width::Half => on_two(v, d, a, b, vector::vsrah),
-            Width::Word => on_two(v, d, a, b, vector::vsraw),
+            Size::Byte => on_two(v, d, a, b, vector::vsrab),
+            Size::Half => on_two(v, d, a, b, vector::vsrah),
+            Size::Word => on_two(v, d, a, b, vector::vsraw),
         },
         Op::ShiftWholeLeft => on_two(v, d, a, b, moves::vsl),
         Op::ShiftWholeRight => on_two(v, d, a, b, moves::vsr),
@@ -135,52 +135,52 @@ pub fn compute(v: &mut [u8; 512], d: usize, a: usize, b: usize, c: usize, n: u8,
         Op::FromStatus => copy(v, d, a),
         Op::ToStatus => copy(v, d, a),
         Op::MulOdd(w, s) => match w {
-            Width::Byte => match s {
+            Size::Byte => match s {
                 Sign::Unsigned => on_two(v, d, a, b, vector::vmuloub),
                 Sign::Signed => on_two(v, d, a, b, vector::vmulosb),
             },
-            Width::Half => match s {
+            Size::Half => match s {
                 Sign::Unsigned => on_two(v, d, a, b, vector::vmulouh),
                 Sign::Signed => on_two(v, d, a, b, vector::vmulosh),
             },
-            Width::Word => copy(v, d, a),
+            Size::Word => copy(v, d, a),
         },
         Op::MulEven(w, s) => match w {
-            Width::Byte => match s {
+            Size::Byte => match s {
                 Sign::Unsigned => on_two(v, d, a, b, vector::vmuleub),
                 Sign::Signed => on_two(v, d, a, b, vector::vmulesb),
             },
-            Width::Half => match s {
+            Size::Half => match s {
                 Sign::Unsigned => on_two(v, d, a, b, vector::vmuleuh),
                 Sign::Signed => on_two(v, d, a, b, vector::vmulesh),
             },
-            Width::Word => copy(v, d, a),
+            Size::Word => copy(v, d, a),
         },
         Op::SumQuarter(w, s) => match w {
-            Width::Byte => match s {
+            Size::Byte => match s {
                 Sign::Unsigned => on_two(v, d, a, b, vector::vsum4ubs),
                 Sign::Signed => on_two(v, d, a, b, vector::vsum4sbs),
             },
-            Width::Half => match s {
+            Size::Half => match s {
                 Sign::Unsigned => copy(v, d, a),
                 Sign::Signed => on_two(v, d, a, b, vector::vsum4shs),
             },
-            Width::Word => copy(v, d, a),
+            Size::Word => copy(v, d, a),
         },
         Op::SumHalf => on_two(v, d, a, b, packing::vsum2sws),
         Op::SumAll => on_two(v, d, a, b, packing::vsumsws),
         Op::MergeHigh(w) => match w {
-            Width::Byte => on_two(v, d, a, b, moves::vmrghb),
-            Width::Half => on_two(v, d, a, b, moves::vmrghh),
-            Width::Word => on_two(v, d, a, b, moves::vmrghw),
+            Size::Byte => on_two(v, d, a, b, moves::vmrghb),
+            Size::Half => on_two(v, d, a, b, moves::vmrghh),
+            Size::Word => on_two(v, d, a, b, moves::vmrghw),
         },
         Op::MergeLow(w) => match w {
-            Width::Byte => on_two(v, d, a, b, moves::vmrglb),
-            Width::Half => on_two(v, d, a, b, moves::vmrglh),
-            Width::Word => on_two(v, d, a, b, moves::vmrglw),
+            Size::Byte => on_two(v, d, a, b, moves::vmrglb),
+            Size::Half => on_two(v, d, a, b, moves::vmrglh),
+            Size::Word => on_two(v, d, a, b, moves::vmrglw),
         },
         Op::Splat(w) => match w {
-            Width::Byte => on_one(
+            Size::Byte => on_one(
                 v,
                 d,
                 b,
@@ -188,7 +188,7 @@ pub fn compute(v: &mut [u8; 512], d: usize, a: usize, b: usize, c: usize, n: u8,
                     ensures { result ≡ splat Size.Byte y i }
                 { moves::vspltb(y, i) },
             ),
-            Width::Half => on_one(
+            Size::Half => on_one(
                 v,
                 d,
                 b,
@@ -196,7 +196,7 @@ pub fn compute(v: &mut [u8; 512], d: usize, a: usize, b: usize, c: usize, n: u8,
                     ensures { result ≡ splat Size.Half y i }
                 { moves::vsplth(y, i) },
             ),
-            Width::Word => on_one(
+            Size::Word => on_one(
                 v,
                 d,
                 b,
@@ -206,18 +206,18 @@ pub fn compute(v: &mut [u8; 512], d: usize, a: usize, b: usize, c: usize, n: u8,
             ),
         },
         Op::SplatImmediate(w) => match w {
-            Width::Byte => vector::vspltisb(i).put(v, d),
-            Width::Half => vector::vspltish(i).put(v, d),
-            Width::Word => vector::vspltisw(i).put(v, d),
+            Size::Byte => vector::vspltisb(i).put(v, d),
+            Size::Half => vector::vspltish(i).put(v, d),
+            Size::Word => vector::vspltisw(i).put(v, d),
         },
         Op::PackMod(w) => match w {
-            Width::Byte => copy(v, d, a),
-            Width::Half => on_two(v, d, a, b, packing::vpkuhum),
-            Width::Word => on_two(v, d, a, b, packing::vpkuwum),
+            Size::Byte => copy(v, d, a),
+            Size::Half => on_two(v, d, a, b, packing::vpkuhum),
+            Size::Word => on_two(v, d, a, b, packing::vpkuwum),
         },
         Op::PackSat(w, s, t) => match w {
-            Width::Byte => copy(v, d, a),
-            Width::Half => match s {
+            Size::Byte => copy(v, d, a),
+            Size::Half => match s {
                 Sign::Unsigned => match t {
                     Sign::Unsigned => on_two(v, d, a, b, packing::vpkuhus),
                     Sign::Signed => copy(v, d, a),
@@ -227,7 +227,7 @@ pub fn compute(v: &mut [u8; 512], d: usize, a: usize, b: usize, c: usize, n: u8,
                     Sign::Signed => on_two(v, d, a, b, packing::vpkshss),
                 },
             },
-            Width::Word => match s {
+            Size::Word => match s {
                 Sign::Unsigned => match t {
                     Sign::Unsigned => on_two(v, d, a, b, packing::vpkuwus),
                     Sign::Signed => copy(v, d, a),
@@ -239,30 +239,30 @@ pub fn compute(v: &mut [u8; 512], d: usize, a: usize, b: usize, c: usize, n: u8,
             },
         },
         Op::UnpackHigh(w) => match w {
-            Width::Byte => on_one(v, d, b, packing::vupkhsb),
-            Width::Half => on_one(v, d, b, packing::vupkhsh),
-            Width::Word => copy(v, d, b),
+            Size::Byte => on_one(v, d, b, packing::vupkhsb),
+            Size::Half => on_one(v, d, b, packing::vupkhsh),
+            Size::Word => copy(v, d, b),
         },
         Op::UnpackLow(w) => match w {
-            Width::Byte => on_one(v, d, b, packing::vupklsb),
-            Width::Half => on_one(v, d, b, packing::vupklsh),
-            Width::Word => copy(v, d, b),
+            Size::Byte => on_one(v, d, b, packing::vupklsb),
+            Size::Half => on_one(v, d, b, packing::vupklsh),
+            Size::Word => copy(v, d, b),
         },
         Op::CompareEqual(w) => match w {
-            Width::Byte => on_two(v, d, a, b, vector::vcmpequb),
-            Width::Half => on_two(v, d, a, b, vector::vcmpequh),
-            Width::Word => on_two(v, d, a, b, vector::vcmpequw),
+            Size::Byte => on_two(v, d, a, b, vector::vcmpequb),
+            Size::Half => on_two(v, d, a, b, vector::vcmpequh),
+            Size::Word => on_two(v, d, a, b, vector::vcmpequw),
         },
         Op::CompareGreater(w, s) => match w {
-            Width::Byte => match s {
+            Size::Byte => match s {
                 Sign::Unsigned => on_two(v, d, a, b, vector::vcmpgtub),
                 Sign::Signed => on_two(v, d, a, b, vector::vcmpgtsb),
             },
-            Width::Half => match s {
+            Size::Half => match s {
                 Sign::Unsigned => on_two(v, d, a, b, vector::vcmpgtuh),
                 Sign::Signed => on_two(v, d, a, b, vector::vcmpgtsh),
             },
-            Width::Word => match s {
+            Size::Word => match s {
                 Sign::Unsigned => on_two(v, d, a, b, vector::vcmpgtuw),
                 Sign::Signed => on_two(v, d, a, b, vector::vcmpgtsw),
             },
@@ -271,15 +271,15 @@ pub fn compute(v: &mut [u8; 512], d: usize, a: usize, b: usize, c: usize, n: u8,
         Op::MulHighRoundAdd => on_three(v, d, a, b, c, vector::vmhraddshs),
         Op::MulLowAdd => on_three(v, d, a, b, c, vector::vmladduhm),
         Op::MulSum(w, s) => match w {
-            Width::Byte => match s {
+            Size::Byte => match s {
                 Sign::Unsigned => on_three(v, d, a, b, c, vector::vmsumubm),
                 Sign::Signed => copy(v, d, a),
             },
-            Width::Half => match s {
+            Size::Half => match s {
                 Sign::Unsigned => on_three(v, d, a, b, c, vector::vmsumuhm),
                 Sign::Signed => on_three(v, d, a, b, c, vector::vmsumshm),
             },
-            Width::Word => copy(v, d, a),
+            Size::Word => copy(v, d, a),
         },
         Op::MulSumMixed => on_three(v, d, a, b, c, vector::vmsummbm),
         Op::MulSumSat(s) => match s {

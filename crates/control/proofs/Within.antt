@@ -4,8 +4,8 @@ use Rattle.std.proofs.Common.{◌≡◌, ℕ, ◌+◌, ◌-◌, ◌*◌, ◌/◌
 use mathlib.Core.Bool.{false≢true}
 use Rattle.encodings.specs.Bits.{pick}
 use Rattle.decode.specs.declared.Decoded.{Decoded}
-use Rattle.encodings.specs.declared.ops.Width.{Width}
-use Rattle.encodings.specs.declared.ops.Width.TheVariants.{Byte, Half, Word}
+use Rattle.lanes.specs.declared.Size.{Size}
+use Rattle.lanes.specs.declared.Size.TheVariants.{Byte, Half, Word}
 use Rattle.std.specs.Option.{option_map_or}
 use Rattle.encodings.specs.declared.ops.Op.{Op}
 use Rattle.control.specs.declared.answers.Answer.{Answer}
@@ -15,7 +15,8 @@ use Rattle.control.specs.declared.kinds.Kind.TheVariants.{Vector, GetStatus, Put
 use Rattle.std.specs.Prelude.{Option, Some, None, Result, Ok, Err}
 use Rattle.control.specs.declared.orders.Order.{Order}
 use Rattle.control.specs.declared.orders.Order.TheVariants.{ReadLine, WriteLine, ReadElement, WriteElement}
-use Rattle.control.specs.Addresses.{address_of, sum_of, bytes_of, aligned, item_of, well_placed}
+use Rattle.control.specs.Addresses.{address_of, sum_of, aligned, item_of, well_placed}
+use Rattle.lanes.specs.Numbers.{bytes_in}
 use Rattle.control.specs.Kinds.{kind_of}
 use Rattle.control.specs.Orders.{reached, element, order_in, order_for, order_of, IsLine, IsElement, Reaches}
 
@@ -70,12 +71,12 @@ module _ (base len : ℕ) (p : Placed base len) where
   is_line k x e h = record { ends = omega arith; starts = omega arith }
 
   -- an element does not leave its line
-  within : (w : Width) (x : ℕ) → aligned (bytes_of w) x % 16 + bytes_of w ≤ 16
+  within : (w : Size) (x : ℕ) → aligned (bytes_in w) x % 16 + bytes_in w ≤ 16
   within Byte x = omega arith
   within Half x = omega arith
   within Word x = omega arith
 
-  is_element : (w : Width) (k x : ℕ) → k < len → IsElement (element (aligned (bytes_of w) x) (bytes_of w) k) len
+  is_element : (w : Size) (k x : ℕ) → k < len → IsElement (element (aligned (bytes_in w) x) (bytes_in w) k) len
   is_element w k x h = record { line = record { ends = omega arith; starts = omega arith }; within = within w x }
 
   -- its line and its place in the line make its address
@@ -97,9 +98,9 @@ module _ (base len : ℕ) (p : Placed base len) where
   reaches_in PutStatus o x s = tt
   reaches_in LeftPattern o x s = omega arith
   reaches_in RightPattern o x s = omega arith
-  reaches_in (GetElement w) o x s = at_place (aligned (bytes_of w) x) (λ k. ReadElement (element (aligned (bytes_of w) x) (bytes_of w) k)) (λ k e h. is_element w k x h)
+  reaches_in (GetElement w) o x s = at_place (aligned (bytes_in w) x) (λ k. ReadElement (element (aligned (bytes_in w) x) (bytes_in w) k)) (λ k e h. is_element w k x h)
   reaches_in GetLine o x s = at_place (aligned 16 x) ReadLine (λ k e h. is_line k x e h)
-  reaches_in (PutElement w) o x s = at_place (aligned (bytes_of w) x) (λ k. WriteElement (element (aligned (bytes_of w) x) (bytes_of w) k)) (λ k e h. is_element w k x h)
+  reaches_in (PutElement w) o x s = at_place (aligned (bytes_in w) x) (λ k. WriteElement (element (aligned (bytes_in w) x) (bytes_in w) k)) (λ k e h. is_element w k x h)
   reaches_in PutLine o x s = at_place (aligned 16 x) WriteLine (λ k e h. is_line k x e h)
   reaches_in AddScalar o x s = tt
 

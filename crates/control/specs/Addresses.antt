@@ -2,8 +2,6 @@
 -- Assumes nothing.
 use Rattle.std.specs.Prelude.{ℕ, ◌+◌, ◌-◌, ◌*◌, ◌/◌, ◌%◌, ◌^◌, Bool, false, List, ◌==◌, nat_le, nat_lt, slice_index, Option, Some, None}
 use Rattle.encodings.specs.Bits.{pick}
-use Rattle.encodings.specs.declared.ops.Width.{Width}
-use Rattle.encodings.specs.declared.ops.Width.TheVariants.{Byte, Half, Word}
 
 -- rA, or the number 0 where the field is 0
 unfoldable pub or_zero : List ℕ → ℕ → ℕ
@@ -20,12 +18,6 @@ extended n = pick (nat_lt n (2 ^ 15)) n (n + (2 ^ 32 - 2 ^ 16))
 -- addi, by the same rule
 unfoldable pub sum_of : List ℕ → ℕ → ℕ → ℕ
 sum_of g a n = (or_zero g a + extended n) % 2 ^ 32
-
--- how many bytes an element has
-abbrev pub bytes_of : Width → ℕ
-bytes_of Byte = 1
-bytes_of Half = 2
-bytes_of Word = 4
 
 -- the address of an item of n bytes: the low bits are cleared
 abbrev pub aligned : ℕ → ℕ → ℕ

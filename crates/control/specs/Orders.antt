@@ -12,7 +12,8 @@ use Rattle.control.specs.declared.kinds.Kind.TheVariants.{Vector, GetStatus, Put
 use Rattle.control.specs.declared.orders.Element.{Element}
 use Rattle.control.specs.declared.orders.Order.{Order}
 use Rattle.control.specs.declared.orders.Order.TheVariants.{SetGeneral, Compute, ReadStatus, WriteStatus, PatternLeft, PatternRight, ReadLine, WriteLine, ReadElement, WriteElement}
-use Rattle.control.specs.Addresses.{address_of, sum_of, bytes_of, aligned, item_of}
+use Rattle.control.specs.Addresses.{address_of, sum_of, aligned, item_of}
+use Rattle.lanes.specs.Numbers.{bytes_in}
 use Rattle.control.specs.Kinds.{kind_of}
 
 -- what is ordered at the place of an item, or answer 7
@@ -31,9 +32,9 @@ order_in GetStatus o x s base len = Ok ReadStatus
 order_in PutStatus o x s base len = Ok WriteStatus
 order_in LeftPattern o x s base len = Ok (PatternLeft (x % 16))
 order_in RightPattern o x s base len = Ok (PatternRight (x % 16))
-order_in (GetElement w) o x s base len = reached (item_of (aligned (bytes_of w) x) base len) (λ k. ReadElement (element (aligned (bytes_of w) x) (bytes_of w) k))
+order_in (GetElement w) o x s base len = reached (item_of (aligned (bytes_in w) x) base len) (λ k. ReadElement (element (aligned (bytes_in w) x) (bytes_in w) k))
 order_in GetLine o x s base len = reached (item_of (aligned 16 x) base len) ReadLine
-order_in (PutElement w) o x s base len = reached (item_of (aligned (bytes_of w) x) base len) (λ k. WriteElement (element (aligned (bytes_of w) x) (bytes_of w) k))
+order_in (PutElement w) o x s base len = reached (item_of (aligned (bytes_in w) x) base len) (λ k. WriteElement (element (aligned (bytes_in w) x) (bytes_in w) k))
 order_in PutLine o x s base len = reached (item_of (aligned 16 x) base len) WriteLine
 order_in AddScalar o x s base len = Ok (SetGeneral s)
 

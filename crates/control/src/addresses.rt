@@ -1,8 +1,9 @@
 // Document 01, "Addresses": of the general registers, what addi gives and which item of the memory is meant.
 ghost use Rattle.std.specs.Prelude.{◌≡◌, ◌<◌};
-ghost use Rattle.control.specs.Addresses.{or_zero, address_of, extended, sum_of, bytes_of, aligned, item_of};
+ghost use Rattle.control.specs.Addresses.{or_zero, address_of, extended, sum_of, aligned, item_of};
+ghost use Rattle.lanes.specs.Numbers.{bytes_in};
 
-use encodings::ops::Width;
+use lanes::Size;
 
 // rA, or the number 0 where the field is 0.
 #[tactic(auto, unfolding(crate::specs::Addresses::or_zero))]
@@ -40,24 +41,24 @@ pub fn sum(g: &[u32; 32], a: usize, n: u32) -> u32
 }
 
 // How many bytes an element has.
-pub fn bytes(width: Width) -> usize
-    ensures { result ≡ bytes_of width }
+pub fn bytes(width: Size) -> usize
+    ensures { result ≡ bytes_in width }
 {
     match width {
-        Width::Byte => 1,
-        Width::Half => 2,
-        Width::Word => 4,
+        Size::Byte => 1,
+        Size::Half => 2,
+        Size::Word => 4,
     }
 }
 
 // The address of an element: the low bits are cleared.
-pub fn element(x: u32, width: Width) -> u32
-    ensures { result ≡ aligned (bytes_of width) x }
+pub fn element(x: u32, width: Size) -> u32
+    ensures { result ≡ aligned (bytes_in width) x }
 {
     match width {
-        Width::Byte => x,
-        Width::Half => x / 2 * 2,
-        Width::Word => x / 4 * 4,
+        Size::Byte => x,
+        Size::Half => x / 2 * 2,
+        Size::Word => x / 4 * 4,
     }
 }
 

@@ -2,7 +2,8 @@
 ghost use Rattle.std.specs.Prelude.{◌≡◌};
 ghost use Rattle.control.specs.Kinds.{kind_of};
 
-use encodings::ops::{Op, Width};
+use encodings::ops::Op;
+use lanes::Size;
 
 #[derive(Clone, Copy)]
 pub enum Kind {
@@ -17,11 +18,11 @@ pub enum Kind {
     // lvsr
     RightPattern,
     // lvebx, lvehx, lvewx
-    GetElement(Width),
+    GetElement(Size),
     // lvx, lvxl
     GetLine,
     // stvebx, stvehx, stvewx
-    PutElement(Width),
+    PutElement(Size),
     // stvx, stvxl
     PutLine,
     // addi

@@ -1,6 +1,7 @@
 // The order for a word, and what it does to the general registers.
 ghost use Rattle.std.specs.Prelude.{◌≡◌, ◌<◌, ok_or, option_map};
-ghost use Rattle.control.specs.Addresses.{address_of, sum_of, bytes_of, aligned, item_of};
+ghost use Rattle.control.specs.Addresses.{address_of, sum_of, aligned, item_of};
+ghost use Rattle.lanes.specs.Numbers.{bytes_in};
 ghost use Rattle.control.specs.Kinds.{kind_of};
 ghost use Rattle.control.specs.Orders.{element, order_in, order_of, general_of, InFields};
 
@@ -9,7 +10,8 @@ use crate::answers::Answer;
 use crate::kinds::{Kind, kind_of};
 use crate::orders::{Element, Order};
 use decode::Decoded;
-use encodings::ops::{Op, Width};
+use encodings::ops::Op;
+use lanes::Size;
 
 // The line with the byte at address x, or answer 7.
 fn line_at(x: u32, base: u32, length: usize) -> Result<usize, Answer>
@@ -19,8 +21,8 @@ fn line_at(x: u32, base: u32, length: usize) -> Result<usize, Answer>
 }
 
 // The element of that width with the byte at address x, or answer 7.
-fn element_at(x: u32, width: Width, base: u32, length: usize) -> Result<Element, Answer>
-    ensures { result ≡ ok_or (option_map (element (aligned (bytes_of width) x) (bytes_of width)) (item_of (aligned (bytes_of width) x) base length)) Answer.Outside }
+fn element_at(x: u32, width: Size, base: u32, length: usize) -> Result<Element, Answer>
+    ensures { result ≡ ok_or (option_map (element (aligned (bytes_in width) x) (bytes_in width)) (item_of (aligned (bytes_in width) x) base length)) Answer.Outside }
 {
     let e = element(x, width);
     let k = find(e, base, length).ok_or(Answer::Outside)?;

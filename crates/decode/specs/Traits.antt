@@ -6,8 +6,8 @@ use Rattle.decode.specs.declared.traits.Traits.{Traits}
 use Rattle.decode.specs.declared.traits.Vectors.{Vectors}
 use Rattle.decode.specs.declared.reserved.Run.{Run}
 use Rattle.decode.specs.declared.reserved.Run.TheVariants.{Empty, Last, BeforeCount, A, B, AB, DA, BeforeByteLane, BeforeHalfLane, BeforeWordLane}
-use Rattle.encodings.specs.declared.ops.Width.{Width}
-use Rattle.encodings.specs.declared.ops.Width.TheVariants.{Byte, Half, Word}
+use Rattle.lanes.specs.declared.Size.{Size}
+use Rattle.lanes.specs.declared.Size.TheVariants.{Byte, Half, Word}
 use Rattle.encodings.specs.declared.ops.Op.{Op}
 use Rattle.encodings.specs.declared.ops.Op.TheVariants.{AddMod, AddCarry, AddSat, SubMod, SubCarry, SubSat, Max, Min, Average, Rotate, ShiftLeft, ShiftRight, ShiftAlgebraic, ShiftWholeLeft, ShiftWholeRight, ShiftBytesLeft, ShiftBytesRight, And, AndNot, Or, Xor, Nor, FromStatus, ToStatus, MulOdd, MulEven, SumQuarter, SumHalf, SumAll, MergeHigh, MergeLow, Splat, SplatImmediate, PackMod, PackSat, UnpackHigh, UnpackLow, CompareEqual, CompareGreater, MulHighAdd, MulHighRoundAdd, MulLowAdd, MulSum, MulSumMixed, MulSumSat, Select, Permute, ShiftPair, LoadShiftLeft, LoadShiftRight, LoadElement, LoadLine, StoreElement, StoreLine, AddImmediate}
 
@@ -58,7 +58,7 @@ abbrev pub free : Bool
 free = false
 
 -- the bits of A before a splat's lane number
-abbrev pub before_lane : Width → Run
+abbrev pub before_lane : Size → Run
 before_lane Byte = BeforeByteLane
 before_lane Half = BeforeHalfLane
 before_lane Word = BeforeWordLane

@@ -3,7 +3,8 @@ ghost use Rattle.std.specs.Prelude.{◌≡◌};
 ghost use Rattle.decode.specs.Traits.{traits_of, before_lane, reads_a, reads_b, reads_c, reads_d, writes_d, can_clip, position_bound, reserved_of};
 
 use crate::reserved::Run;
-use encodings::ops::{Op, Width};
+use encodings::ops::Op;
+use lanes::Size;
 
 // Whether the vectors A, B, C and D are read, and whether D is written.
 #[derive(Clone, Copy)]
@@ -39,13 +40,13 @@ const FREE: bool = false;
 struct Traits(Vectors, bool, bool, Run);
 
 // The bits of A before a splat's lane number.
-fn before_lane(width: Width) -> Run
+fn before_lane(width: Size) -> Run
     ensures { result ≡ before_lane width }
 {
     match width {
-        Width::Byte => Run::BeforeByteLane,
-        Width::Half => Run::BeforeHalfLane,
-        Width::Word => Run::BeforeWordLane,
+        Size::Byte => Run::BeforeByteLane,
+        Size::Half => Run::BeforeHalfLane,
+        Size::Word => Run::BeforeWordLane,
     }
 }
 

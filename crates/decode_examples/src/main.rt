@@ -5,7 +5,8 @@
 
 ghost use Rattle.std.specs.Prelude.{◌<◌};
 
-use encodings::ops::{Op, Sign, Width};
+use encodings::ops::{Op, Sign};
+use lanes::Size;
 use files::say;
 use std::io::Read;
 
@@ -71,7 +72,7 @@ fn family(op: Op) -> usize {
     }
 }
 
-fn width(op: Op) -> Width {
+fn width(op: Op) -> Size {
     match op {
         Op::AddMod(w) => w,
         Op::AddSat(w, _) => w,
@@ -100,7 +101,7 @@ fn width(op: Op) -> Width {
         Op::MulSum(w, _) => w,
         Op::LoadElement(w) => w,
         Op::StoreElement(w) => w,
-        _ => Width::Half,
+        _ => Size::Half,
     }
 }
 
@@ -130,11 +131,11 @@ fn result_sign(op: Op) -> Sign {
     }
 }
 
-fn put_width(rt: &impl Print, w: Width) {
+fn put_width(rt: &impl Print, w: Size) {
     match w {
-        Width::Byte => say(rt, b"b"),
-        Width::Half => say(rt, b"h"),
-        Width::Word => say(rt, b"w"),
+        Size::Byte => say(rt, b"b"),
+        Size::Half => say(rt, b"h"),
+        Size::Word => say(rt, b"w"),
     }
 }
 

@@ -1,12 +1,5 @@
 // The instructions of document 01 by families; where a family has several widths or signs, its variant holds them.
-
-// How wide a lane is.
-#[derive(Clone, Copy)]
-pub enum Width {
-    Byte,
-    Half,
-    Word,
-}
+use lanes::Size;
 
 // How a lane is read.
 #[derive(Clone, Copy)]
@@ -18,31 +11,31 @@ pub enum Sign {
 #[derive(Clone, Copy)]
 pub enum Op {
     // vaddubm, vadduhm, vadduwm
-    AddMod(Width),
+    AddMod(Size),
     // vaddcuw
     AddCarry,
     // vaddubs, vadduhs, vadduws, vaddsbs, vaddshs, vaddsws
-    AddSat(Width, Sign),
+    AddSat(Size, Sign),
     // vsububm, vsubuhm, vsubuwm
-    SubMod(Width),
+    SubMod(Size),
     // vsubcuw
     SubCarry,
     // vsububs, vsubuhs, vsubuws, vsubsbs, vsubshs, vsubsws
-    SubSat(Width, Sign),
+    SubSat(Size, Sign),
     // vmaxub, vmaxuh, vmaxuw, vmaxsb, vmaxsh, vmaxsw
-    Max(Width, Sign),
+    Max(Size, Sign),
     // vminub, vminuh, vminuw, vminsb, vminsh, vminsw
-    Min(Width, Sign),
+    Min(Size, Sign),
     // vavgub, vavguh, vavguw, vavgsb, vavgsh, vavgsw
-    Average(Width, Sign),
+    Average(Size, Sign),
     // vrlb, vrlh, vrlw
-    Rotate(Width),
+    Rotate(Size),
     // vslb, vslh, vslw
-    ShiftLeft(Width),
+    ShiftLeft(Size),
     // vsrb, vsrh, vsrw
-    ShiftRight(Width),
+    ShiftRight(Size),
     // vsrab, vsrah, vsraw
-    ShiftAlgebraic(Width),
+    ShiftAlgebraic(Size),
     // vsl: the whole register, by bits
     ShiftWholeLeft,
     // vsr: the whole register, by bits
@@ -66,35 +59,35 @@ pub enum Op {
     // mtvscr
     ToStatus,
     // vmuloub, vmulouh, vmulosb, vmulosh: the width and sign of the factors
-    MulOdd(Width, Sign),
+    MulOdd(Size, Sign),
     // vmuleub, vmuleuh, vmulesb, vmulesh: the width and sign of the factors
-    MulEven(Width, Sign),
+    MulEven(Size, Sign),
     // vsum4ubs, vsum4sbs, vsum4shs: within each word
-    SumQuarter(Width, Sign),
+    SumQuarter(Size, Sign),
     // vsum2sws: within each doubleword
     SumHalf,
     // vsumsws: across the register
     SumAll,
     // vmrghb, vmrghh, vmrghw
-    MergeHigh(Width),
+    MergeHigh(Size),
     // vmrglb, vmrglh, vmrglw
-    MergeLow(Width),
+    MergeLow(Size),
     // vspltb, vsplth, vspltw
-    Splat(Width),
+    Splat(Size),
     // vspltisb, vspltish, vspltisw
-    SplatImmediate(Width),
+    SplatImmediate(Size),
     // vpkuhum, vpkuwum: the width of what is packed
-    PackMod(Width),
+    PackMod(Size),
     // vpkuhus, vpkuwus, vpkshus, vpkswus, vpkshss, vpkswss: the width and sign of what is packed, and the sign of the result
-    PackSat(Width, Sign, Sign),
+    PackSat(Size, Sign, Sign),
     // vupkhsb, vupkhsh: the width of what is unpacked
-    UnpackHigh(Width),
+    UnpackHigh(Size),
     // vupklsb, vupklsh: the width of what is unpacked
-    UnpackLow(Width),
+    UnpackLow(Size),
     // vcmpequb, vcmpequh, vcmpequw
-    CompareEqual(Width),
+    CompareEqual(Size),
     // vcmpgtub, vcmpgtuh, vcmpgtuw, vcmpgtsb, vcmpgtsh, vcmpgtsw
-    CompareGreater(Width, Sign),
+    CompareGreater(Size, Sign),
     // vmhaddshs
     MulHighAdd,
     // vmhraddshs
@@ -102,7 +95,7 @@ pub enum Op {
     // vmladduhm
     MulLowAdd,
     // vmsumubm, vmsumuhm, vmsumshm: the width and sign of the factors
-    MulSum(Width, Sign),
+    MulSum(Size, Sign),
     // vmsummbm: A signed, B unsigned
     MulSumMixed,
     // vmsumuhs, vmsumshs: of halves, the sign of the factors
@@ -118,11 +111,11 @@ pub enum Op {
     // lvsr
     LoadShiftRight,
     // lvebx, lvehx, lvewx
-    LoadElement(Width),
+    LoadElement(Size),
     // lvx, lvxl: sixteen bytes; the two act alike
     LoadLine,
     // stvebx, stvehx, stvewx
-    StoreElement(Width),
+    StoreElement(Size),
     // stvx, stvxl: sixteen bytes; the two act alike
     StoreLine,
     // addi

@@ -19,7 +19,8 @@ use Rattle.control.specs.declared.kinds.Kind.{Kind}
 use Rattle.control.specs.declared.kinds.Kind.TheVariants.{Vector, GetStatus, PutStatus, LeftPattern, RightPattern, GetElement, GetLine, PutElement, PutLine, AddScalar}
 use Rattle.control.specs.declared.orders.Order.{Order}
 use Rattle.control.specs.declared.orders.Order.TheVariants.{ReadLine, WriteLine, ReadElement, WriteElement}
-use Rattle.control.specs.Addresses.{address_of, sum_of, bytes_of, aligned, item_of, well_placed}
+use Rattle.control.specs.Addresses.{address_of, sum_of, aligned, item_of, well_placed}
+use Rattle.lanes.specs.Numbers.{bytes_in}
 use Rattle.control.specs.Answers.{number_of}
 use Rattle.control.specs.Kinds.{kind_of}
 use Rattle.control.specs.Orders.{reached, element, order_in, order_of}
@@ -88,9 +89,9 @@ module _ (w : Decoded) (g : List ℕ) (base len : ℕ) where
   kind_missed PutStatus o s a h = absurd (false≢true (ap refuses h))
   kind_missed LeftPattern o s a h = absurd (false≢true (ap refuses h))
   kind_missed RightPattern o s a h = absurd (false≢true (ap refuses h))
-  kind_missed (GetElement z) o s a h = missed (aligned (bytes_of z) x) (λ k. ReadElement (element (aligned (bytes_of z) x) (bytes_of z) k)) a h
+  kind_missed (GetElement z) o s a h = missed (aligned (bytes_in z) x) (λ k. ReadElement (element (aligned (bytes_in z) x) (bytes_in z) k)) a h
   kind_missed GetLine o s a h = missed (aligned 16 x) ReadLine a h
-  kind_missed (PutElement z) o s a h = missed (aligned (bytes_of z) x) (λ k. WriteElement (element (aligned (bytes_of z) x) (bytes_of z) k)) a h
+  kind_missed (PutElement z) o s a h = missed (aligned (bytes_in z) x) (λ k. WriteElement (element (aligned (bytes_in z) x) (bytes_in z) k)) a h
   kind_missed PutLine o s a h = missed (aligned 16 x) WriteLine a h
   kind_missed AddScalar o s a h = absurd (false≢true (ap refuses h))
 
@@ -100,9 +101,9 @@ module _ (w : Decoded) (g : List ℕ) (base len : ℕ) where
   kind_missing PutStatus o s h = absurd h
   kind_missing LeftPattern o s h = absurd h
   kind_missing RightPattern o s h = absurd h
-  kind_missing (GetElement z) o s h = missing (aligned (bytes_of z) x) (λ k. ReadElement (element (aligned (bytes_of z) x) (bytes_of z) k)) h
+  kind_missing (GetElement z) o s h = missing (aligned (bytes_in z) x) (λ k. ReadElement (element (aligned (bytes_in z) x) (bytes_in z) k)) h
   kind_missing GetLine o s h = missing (aligned 16 x) ReadLine h
-  kind_missing (PutElement z) o s h = missing (aligned (bytes_of z) x) (λ k. WriteElement (element (aligned (bytes_of z) x) (bytes_of z) k)) h
+  kind_missing (PutElement z) o s h = missing (aligned (bytes_in z) x) (λ k. WriteElement (element (aligned (bytes_in z) x) (bytes_in z) k)) h
   kind_missing PutLine o s h = missing (aligned 16 x) WriteLine h
   kind_missing AddScalar o s h = absurd h
 

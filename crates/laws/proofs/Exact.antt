@@ -13,8 +13,7 @@ use borrow.Author.Tests.{ltb-false}
 use Rattle.encodings.specs.Bits.{pick}
 use Rattle.decode.specs.Traits.{can_clip}
 use Rattle.decode.specs.declared.Decoded.{Decoded}
-use Rattle.encodings.specs.declared.ops.Width.{Width}
-use Rattle.encodings.specs.declared.ops.Width.TheVariants as width
+use Rattle.lanes.specs.declared.Size.{Size}
 use Rattle.encodings.specs.declared.ops.Sign.{Sign}
 use Rattle.encodings.specs.declared.ops.Sign.TheVariants.{Unsigned, Signed}
 use Rattle.encodings.specs.declared.ops.Op.{Op}
@@ -27,7 +26,7 @@ use Rattle.lanes.specs.Operations.{width_of}
 use Rattle.lanes.specs.Order.{Bytes}
 use Rattle.packing.specs.Resized.{lane_of_both, unsigned}
 use Rattle.packing.specs.Summed.{signed_word, odd_words}
-use Rattle.compute.specs.Families.{size_of, by_sign, quarter_sums, packs_saturated}
+use Rattle.compute.specs.Families.{by_sign, quarter_sums, packs_saturated}
 use Rattle.compute.specs.Computed.{computed}
 use Rattle.control.specs.declared.answers.Answer.{Answer}
 use Rattle.control.specs.declared.answers.Answer.TheVariants.{NoInstruction, Reserved}
@@ -37,7 +36,8 @@ use Rattle.control.specs.declared.kinds.Kind.{Kind}
 use Rattle.control.specs.declared.kinds.Kind.TheVariants.{Vector, GetStatus, PutStatus, LeftPattern, RightPattern, GetElement, GetLine, PutElement, PutLine, AddScalar}
 use Rattle.control.specs.declared.orders.Order.{Order}
 use Rattle.control.specs.declared.orders.Order.TheVariants.{ReadLine, WriteLine, ReadElement, WriteElement}
-use Rattle.control.specs.Addresses.{address_of, sum_of, bytes_of, aligned, item_of}
+use Rattle.control.specs.Addresses.{address_of, sum_of, aligned, item_of}
+use Rattle.lanes.specs.Numbers.{bytes_in}
 use Rattle.control.specs.Kinds.{kind_of}
 use Rattle.control.specs.Orders.{reached, element, order_in, order_for, order_of}
 use Rattle.effects.specs.Effects.{Held, register, computed_of}
@@ -57,23 +57,23 @@ module _ (a b c : List ℕ) (ha : Bytes a) (hb : Bytes b) (hc : Bytes c) where
   never : (op : Op) (i n : ℕ) → can_clip op ≡ false → (computed op a b c i n).marks ≡ 0 ↔ Unit {0}
   never op i n e = (λ h. tt, λ h. unmarked op a b c i n e)
 
-  quarter : (w : Width) (s : Sign) → (quarter_sums w s a b).marks ≡ 0 ↔ QuarterSumsFit w s a b
-  quarter width.Byte Unsigned = applied_clipped lane.SumBytesU a b b ha hb hb Word
-  quarter width.Byte Signed = applied_clipped lane.SumBytesS a b b ha hb hb Word
-  quarter width.Half Unsigned = (λ h. tt, λ h. refl)
-  quarter width.Half Signed = applied_clipped lane.SumHalvesS a b b ha hb hb Word
-  quarter width.Word s = (λ h. tt, λ h. refl)
+  quarter : (w : Size) (s : Sign) → (quarter_sums w s a b).marks ≡ 0 ↔ QuarterSumsFit w s a b
+  quarter Byte Unsigned = applied_clipped lane.SumBytesU a b b ha hb hb Word
+  quarter Byte Signed = applied_clipped lane.SumBytesS a b b ha hb hb Word
+  quarter Half Unsigned = (λ h. tt, λ h. refl)
+  quarter Half Signed = applied_clipped lane.SumHalvesS a b b ha hb hb Word
+  quarter Word s = (λ h. tt, λ h. refl)
 
-  packs : (w : Width) (s t : Sign) → (packs_saturated w s t a b).marks ≡ 0 ↔ PacksFit w s t a b
-  packs width.Byte s t = (λ h. tt, λ h. refl)
-  packs width.Half Unsigned Unsigned = vector_clipped Byte (λ j. sat_u (2 ^ width_of Byte) (unsigned (2 ^ width_of Half) (lane_of_both Half a b j)))
-  packs width.Half Unsigned Signed = (λ h. tt, λ h. refl)
-  packs width.Half Signed Unsigned = vector_clipped Byte (λ j. sat_u (2 ^ width_of Byte) (signed (2 ^ width_of Half) (lane_of_both Half a b j)))
-  packs width.Half Signed Signed = vector_clipped Byte (λ j. sat_s (2 ^ width_of Byte) (signed (2 ^ width_of Half) (lane_of_both Half a b j)))
-  packs width.Word Unsigned Unsigned = vector_clipped Half (λ j. sat_u (2 ^ width_of Half) (unsigned (2 ^ width_of Word) (lane_of_both Word a b j)))
-  packs width.Word Unsigned Signed = (λ h. tt, λ h. refl)
-  packs width.Word Signed Unsigned = vector_clipped Half (λ j. sat_u (2 ^ width_of Half) (signed (2 ^ width_of Word) (lane_of_both Word a b j)))
-  packs width.Word Signed Signed = vector_clipped Half (λ j. sat_s (2 ^ width_of Half) (signed (2 ^ width_of Word) (lane_of_both Word a b j)))
+  packs : (w : Size) (s t : Sign) → (packs_saturated w s t a b).marks ≡ 0 ↔ PacksFit w s t a b
+  packs Byte s t = (λ h. tt, λ h. refl)
+  packs Half Unsigned Unsigned = vector_clipped Byte (λ j. sat_u (2 ^ width_of Byte) (unsigned (2 ^ width_of Half) (lane_of_both Half a b j)))
+  packs Half Unsigned Signed = (λ h. tt, λ h. refl)
+  packs Half Signed Unsigned = vector_clipped Byte (λ j. sat_u (2 ^ width_of Byte) (signed (2 ^ width_of Half) (lane_of_both Half a b j)))
+  packs Half Signed Signed = vector_clipped Byte (λ j. sat_s (2 ^ width_of Byte) (signed (2 ^ width_of Half) (lane_of_both Half a b j)))
+  packs Word Unsigned Unsigned = vector_clipped Half (λ j. sat_u (2 ^ width_of Half) (unsigned (2 ^ width_of Word) (lane_of_both Word a b j)))
+  packs Word Unsigned Signed = (λ h. tt, λ h. refl)
+  packs Word Signed Unsigned = vector_clipped Half (λ j. sat_u (2 ^ width_of Half) (signed (2 ^ width_of Word) (lane_of_both Word a b j)))
+  packs Word Signed Signed = vector_clipped Half (λ j. sat_s (2 ^ width_of Half) (signed (2 ^ width_of Word) (lane_of_both Word a b j)))
 
   -- the words 1 and 3 of a vector whose other words are zero
   odd_words_lem : (p q : Lane) → (odd_words p q).marks ≡ 0 ↔ (p.clipped ≡ false) × (q.clipped ≡ false)
@@ -92,10 +92,10 @@ module _ (a b c : List ℕ) (ha : Bytes a) (hb : Bytes b) (hc : Bytes c) where
   unfolding computed
   no_mark (AddMod w) i n = never (AddMod w) i n refl
   no_mark AddCarry i n = never AddCarry i n refl
-  no_mark (AddSat w s) i n = applied_clipped (by_sign s lane.AddSatU lane.AddSatS) a b b ha hb hb (size_of w)
+  no_mark (AddSat w s) i n = applied_clipped (by_sign s lane.AddSatU lane.AddSatS) a b b ha hb hb w
   no_mark (SubMod w) i n = never (SubMod w) i n refl
   no_mark SubCarry i n = never SubCarry i n refl
-  no_mark (SubSat w s) i n = applied_clipped (by_sign s lane.SubSatU lane.SubSatS) a b b ha hb hb (size_of w)
+  no_mark (SubSat w s) i n = applied_clipped (by_sign s lane.SubSatU lane.SubSatS) a b b ha hb hb w
   no_mark (Max w s) i n = never (Max w s) i n refl
   no_mark (Min w s) i n = never (Min w s) i n refl
   no_mark (Average w s) i n = never (Average w s) i n refl
@@ -178,11 +178,11 @@ module _ (w : Decoded) (op : Op) (h : Held) (hv : Bytes h.v) where
   kind_exact RightPattern x s base len n = idle (order_in RightPattern op x s base len) refl n
   kind_exact (GetElement z) x s base len n =
       idle (order_in (GetElement z) op x s base len)
-      (reached_marks (item_of (aligned (bytes_of z) x) base len) (λ k. ReadElement (element (aligned (bytes_of z) x) (bytes_of z) k)) w h (λ k. refl)) n
+      (reached_marks (item_of (aligned (bytes_in z) x) base len) (λ k. ReadElement (element (aligned (bytes_in z) x) (bytes_in z) k)) w h (λ k. refl)) n
   kind_exact GetLine x s base len n = idle (order_in GetLine op x s base len) (reached_marks (item_of (aligned 16 x) base len) ReadLine w h (λ k. refl)) n
   kind_exact (PutElement z) x s base len n =
       idle (order_in (PutElement z) op x s base len)
-      (reached_marks (item_of (aligned (bytes_of z) x) base len) (λ k. WriteElement (element (aligned (bytes_of z) x) (bytes_of z) k)) w h (λ k. refl)) n
+      (reached_marks (item_of (aligned (bytes_in z) x) base len) (λ k. WriteElement (element (aligned (bytes_in z) x) (bytes_in z) k)) w h (λ k. refl)) n
   kind_exact PutLine x s base len n = idle (order_in PutLine op x s base len) (reached_marks (item_of (aligned 16 x) base len) WriteLine w h (λ k. refl)) n
   kind_exact AddScalar x s base len n = idle (order_in AddScalar op x s base len) refl n
 

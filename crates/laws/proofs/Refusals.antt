@@ -17,7 +17,8 @@ use Rattle.std.specs.Option.{option_map_or}
 use Rattle.encodings.specs.declared.ops.Op.{Op}
 use Rattle.control.specs.declared.orders.Order.{Order}
 use Rattle.control.specs.declared.orders.Order.TheVariants.{ReadLine, WriteLine, ReadElement, WriteElement}
-use Rattle.control.specs.Addresses.{address_of, sum_of, bytes_of, aligned, item_of}
+use Rattle.control.specs.Addresses.{address_of, sum_of, aligned, item_of}
+use Rattle.lanes.specs.Numbers.{bytes_in}
 use Rattle.control.specs.Answers.{number_of}
 use Rattle.control.specs.Kinds.{kind_of}
 use Rattle.control.specs.Orders.{reached, element, order_in, order_of}
@@ -40,9 +41,9 @@ kind_late GetStatus o x s base len = tt
 kind_late PutStatus o x s base len = tt
 kind_late LeftPattern o x s base len = tt
 kind_late RightPattern o x s base len = tt
-kind_late (GetElement w) o x s base len = reached_late (item_of (aligned (bytes_of w) x) base len) (λ k. ReadElement (element (aligned (bytes_of w) x) (bytes_of w) k))
+kind_late (GetElement w) o x s base len = reached_late (item_of (aligned (bytes_in w) x) base len) (λ k. ReadElement (element (aligned (bytes_in w) x) (bytes_in w) k))
 kind_late GetLine o x s base len = reached_late (item_of (aligned 16 x) base len) ReadLine
-kind_late (PutElement w) o x s base len = reached_late (item_of (aligned (bytes_of w) x) base len) (λ k. WriteElement (element (aligned (bytes_of w) x) (bytes_of w) k))
+kind_late (PutElement w) o x s base len = reached_late (item_of (aligned (bytes_in w) x) base len) (λ k. WriteElement (element (aligned (bytes_in w) x) (bytes_in w) k))
 kind_late PutLine o x s base len = reached_late (item_of (aligned 16 x) base len) WriteLine
 kind_late AddScalar o x s base len = tt
 

@@ -9,8 +9,7 @@ use native.Mathlib.Omega.{arith}
 use lib.ListN.{length}
 use lib.Dec.{eqb, ltb}
 use borrow.Author.Tests.{lt-ltb}
-use Rattle.encodings.specs.declared.ops.Width.{Width}
-use Rattle.encodings.specs.declared.ops.Width.TheVariants as width
+use Rattle.lanes.specs.declared.Size.{Size}
 use Rattle.encodings.specs.declared.ops.Sign.{Sign}
 use Rattle.encodings.specs.declared.ops.Sign.TheVariants.{Unsigned, Signed}
 use Rattle.encodings.specs.declared.ops.Op.{Op}
@@ -19,7 +18,6 @@ use Rattle.decode.specs.Traits.{position_bound}
 use Rattle.lanes.specs.declared.Marked.{Marked}
 use Rattle.lanes.specs.declared.Op as lane_op
 use Rattle.lanes.specs.declared.Op.TheVariants as lane
-use Rattle.lanes.specs.declared.Size.{Size}
 use Rattle.lanes.specs.declared.Size.TheVariants.{Byte, Half, Word}
 use Rattle.lanes.specs.Words.{word_from, bytes_of, joined}
 use Rattle.lanes.specs.Operations.{lanes_in, word_op, applied}
@@ -29,7 +27,7 @@ use Rattle.lanes.proofs.Reorder.{four, word_of, word_lt, reordered-bytes}
 use Rattle.lanes.proofs.Unclipped as clip
 use Rattle.lanes.proofs.Applied.{word_small}
 use Rattle.vector.specs.Copies.{copies}
-use Rattle.compute.specs.Families.{size_of, by_sign, unclipped, products, quarter_sums, product_sums}
+use Rattle.compute.specs.Families.{by_sign, unclipped, products, quarter_sums, product_sums}
 use Rattle.compute.specs.Computed.{computed}
 use Rattle.flags.specs.Flags.{summary_of}
 use Rattle.laws.proofs.Bytes.{copies-bytes, applied-bytes}
@@ -136,41 +134,41 @@ module _ (p : ℕ → ℕ) (o : Order p) where
     three : (s : Size) (f : lane_op.Op) → Alike p (applied s f a b c) (applied s f (reordered p a) (reordered p b) (reordered p c))
     three s f = applied_alike s f a b c ha hb hc
 
-    products_alike : (w : Width) (f : lane_op.Op) → Alike p (products w f a b) (products w f (reordered p a) (reordered p b))
-    products_alike width.Byte f = two Half f
-    products_alike width.Half f = two Word f
-    products_alike width.Word f = as_it_is a long ha
+    products_alike : (w : Size) (f : lane_op.Op) → Alike p (products w f a b) (products w f (reordered p a) (reordered p b))
+    products_alike Byte f = two Half f
+    products_alike Half f = two Word f
+    products_alike Word f = as_it_is a long ha
 
-    quarters_alike : (w : Width) (s : Sign) → Alike p (quarter_sums w s a b) (quarter_sums w s (reordered p a) (reordered p b))
-    quarters_alike width.Byte Unsigned = two Word lane.SumBytesU
-    quarters_alike width.Byte Signed = two Word lane.SumBytesS
-    quarters_alike width.Half Unsigned = as_it_is a long ha
-    quarters_alike width.Half Signed = two Word lane.SumHalvesS
-    quarters_alike width.Word s = as_it_is a long ha
+    quarters_alike : (w : Size) (s : Sign) → Alike p (quarter_sums w s a b) (quarter_sums w s (reordered p a) (reordered p b))
+    quarters_alike Byte Unsigned = two Word lane.SumBytesU
+    quarters_alike Byte Signed = two Word lane.SumBytesS
+    quarters_alike Half Unsigned = as_it_is a long ha
+    quarters_alike Half Signed = two Word lane.SumHalvesS
+    quarters_alike Word s = as_it_is a long ha
 
-    sums_alike : (w : Width) (s : Sign) → Alike p (product_sums w s a b c) (product_sums w s (reordered p a) (reordered p b) (reordered p c))
-    sums_alike width.Byte Unsigned = three Word lane.MulSumBytesU
-    sums_alike width.Byte Signed = as_it_is a long ha
-    sums_alike width.Half Unsigned = three Word lane.MulSumHalvesU
-    sums_alike width.Half Signed = three Word lane.MulSumHalvesS
-    sums_alike width.Word s = as_it_is a long ha
+    sums_alike : (w : Size) (s : Sign) → Alike p (product_sums w s a b c) (product_sums w s (reordered p a) (reordered p b) (reordered p c))
+    sums_alike Byte Unsigned = three Word lane.MulSumBytesU
+    sums_alike Byte Signed = as_it_is a long ha
+    sums_alike Half Unsigned = three Word lane.MulSumHalvesU
+    sums_alike Half Signed = three Word lane.MulSumHalvesS
+    sums_alike Word s = as_it_is a long ha
 
     pub computed_alike : (op : Op) (i n : ℕ) → position_bound op ≡ false → i < 256
         → Alike p (computed op a b c i n) (computed op (reordered p a) (reordered p b) (reordered p c) i n)
     unfolding computed
-    computed_alike (AddMod w) i n e k = two (size_of w) lane.AddModulo
+    computed_alike (AddMod w) i n e k = two w lane.AddModulo
     computed_alike AddCarry i n e k = two Word lane.AddCarry
-    computed_alike (AddSat w s) i n e k = two (size_of w) (by_sign s lane.AddSatU lane.AddSatS)
-    computed_alike (SubMod w) i n e k = two (size_of w) lane.SubModulo
+    computed_alike (AddSat w s) i n e k = two w (by_sign s lane.AddSatU lane.AddSatS)
+    computed_alike (SubMod w) i n e k = two w lane.SubModulo
     computed_alike SubCarry i n e k = two Word lane.SubCarry
-    computed_alike (SubSat w s) i n e k = two (size_of w) (by_sign s lane.SubSatU lane.SubSatS)
-    computed_alike (Max w s) i n e k = two (size_of w) (by_sign s lane.MaxU lane.MaxS)
-    computed_alike (Min w s) i n e k = two (size_of w) (by_sign s lane.MinU lane.MinS)
-    computed_alike (Average w s) i n e k = two (size_of w) (by_sign s lane.AvgU lane.AvgS)
-    computed_alike (Rotate w) i n e k = two (size_of w) lane.RotateLeft
-    computed_alike (ShiftLeft w) i n e k = two (size_of w) lane.ShiftLeft
-    computed_alike (ShiftRight w) i n e k = two (size_of w) lane.ShiftRight
-    computed_alike (ShiftAlgebraic w) i n e k = two (size_of w) lane.ShiftRightAlgebraic
+    computed_alike (SubSat w s) i n e k = two w (by_sign s lane.SubSatU lane.SubSatS)
+    computed_alike (Max w s) i n e k = two w (by_sign s lane.MaxU lane.MaxS)
+    computed_alike (Min w s) i n e k = two w (by_sign s lane.MinU lane.MinS)
+    computed_alike (Average w s) i n e k = two w (by_sign s lane.AvgU lane.AvgS)
+    computed_alike (Rotate w) i n e k = two w lane.RotateLeft
+    computed_alike (ShiftLeft w) i n e k = two w lane.ShiftLeft
+    computed_alike (ShiftRight w) i n e k = two w lane.ShiftRight
+    computed_alike (ShiftAlgebraic w) i n e k = two w lane.ShiftRightAlgebraic
     computed_alike ShiftWholeLeft i n e k = absurd (true≢false e)
     computed_alike ShiftWholeRight i n e k = absurd (true≢false e)
     computed_alike ShiftBytesLeft i n e k = absurd (true≢false e)
@@ -190,13 +188,13 @@ module _ (p : ℕ → ℕ) (o : Order p) where
     computed_alike (MergeHigh w) i n e k = absurd (true≢false e)
     computed_alike (MergeLow w) i n e k = absurd (true≢false e)
     computed_alike (Splat w) i n e k = absurd (true≢false e)
-    computed_alike (SplatImmediate w) i n e k = copied (size_of w) i k
+    computed_alike (SplatImmediate w) i n e k = copied w i k
     computed_alike (PackMod w) i n e k = absurd (true≢false e)
     computed_alike (PackSat w s t) i n e k = absurd (true≢false e)
     computed_alike (UnpackHigh w) i n e k = absurd (true≢false e)
     computed_alike (UnpackLow w) i n e k = absurd (true≢false e)
-    computed_alike (CompareEqual w) i n e k = two (size_of w) lane.Equal
-    computed_alike (CompareGreater w s) i n e k = two (size_of w) (by_sign s lane.GreaterU lane.GreaterS)
+    computed_alike (CompareEqual w) i n e k = two w lane.Equal
+    computed_alike (CompareGreater w s) i n e k = two w (by_sign s lane.GreaterU lane.GreaterS)
     computed_alike MulHighAdd i n e k = three Half lane.MulHighAdd
     computed_alike MulHighRoundAdd i n e k = three Half lane.MulHighRoundAdd
     computed_alike MulLowAdd i n e k = three Half lane.MulLowAdd

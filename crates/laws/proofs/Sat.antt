@@ -20,7 +20,8 @@ use Rattle.control.specs.declared.kinds.Kind.{Kind}
 use Rattle.control.specs.declared.kinds.Kind.TheVariants.{Vector, GetStatus, PutStatus, LeftPattern, RightPattern, GetElement, GetLine, PutElement, PutLine, AddScalar}
 use Rattle.control.specs.declared.orders.Order.{Order}
 use Rattle.control.specs.declared.orders.Order.TheVariants.{SetGeneral, Compute, ReadStatus, WriteStatus, PatternLeft, PatternRight, ReadLine, WriteLine, ReadElement, WriteElement}
-use Rattle.control.specs.Addresses.{address_of, sum_of, bytes_of, aligned, item_of, well_placed}
+use Rattle.control.specs.Addresses.{address_of, sum_of, aligned, item_of, well_placed}
+use Rattle.lanes.specs.Numbers.{bytes_in}
 use Rattle.control.specs.Kinds.{kind_of}
 use Rattle.control.specs.Orders.{reached, element, order_in, order_of}
 use Rattle.flags.specs.Flags.{from_status}
@@ -54,9 +55,9 @@ kind_status GetStatus o x s base len = refl
 kind_status PutStatus o x s base len = refl
 kind_status LeftPattern o x s base len = refl
 kind_status RightPattern o x s base len = refl
-kind_status (GetElement w) o x s base len = reached_status (item_of (aligned (bytes_of w) x) base len) (λ k. ReadElement (element (aligned (bytes_of w) x) (bytes_of w) k)) (λ k. refl)
+kind_status (GetElement w) o x s base len = reached_status (item_of (aligned (bytes_in w) x) base len) (λ k. ReadElement (element (aligned (bytes_in w) x) (bytes_in w) k)) (λ k. refl)
 kind_status GetLine o x s base len = reached_status (item_of (aligned 16 x) base len) ReadLine (λ k. refl)
-kind_status (PutElement w) o x s base len = reached_status (item_of (aligned (bytes_of w) x) base len) (λ k. WriteElement (element (aligned (bytes_of w) x) (bytes_of w) k)) (λ k. refl)
+kind_status (PutElement w) o x s base len = reached_status (item_of (aligned (bytes_in w) x) base len) (λ k. WriteElement (element (aligned (bytes_in w) x) (bytes_in w) k)) (λ k. refl)
 kind_status PutLine o x s base len = reached_status (item_of (aligned 16 x) base len) WriteLine (λ k. refl)
 kind_status AddScalar o x s base len = refl
 
@@ -98,9 +99,9 @@ module _ (w : Decoded) (g : List ℕ) (base len : ℕ) where
       kinds PutStatus o x s n = refl
       kinds LeftPattern o x s n = refl
       kinds RightPattern o x s n = refl
-      kinds (GetElement z) o x s c = reached_none (item_of (aligned (bytes_of z) x) base len) (λ k. ReadElement (element (aligned (bytes_of z) x) (bytes_of z) k)) (λ k. refl)
+      kinds (GetElement z) o x s c = reached_none (item_of (aligned (bytes_in z) x) base len) (λ k. ReadElement (element (aligned (bytes_in z) x) (bytes_in z) k)) (λ k. refl)
       kinds GetLine o x s n = reached_none (item_of (aligned 16 x) base len) ReadLine (λ k. refl)
-      kinds (PutElement z) o x s c = reached_none (item_of (aligned (bytes_of z) x) base len) (λ k. WriteElement (element (aligned (bytes_of z) x) (bytes_of z) k)) (λ k. refl)
+      kinds (PutElement z) o x s c = reached_none (item_of (aligned (bytes_in z) x) base len) (λ k. WriteElement (element (aligned (bytes_in z) x) (bytes_in z) k)) (λ k. refl)
       kinds PutLine o x s n = reached_none (item_of (aligned 16 x) base len) WriteLine (λ k. refl)
       kinds AddScalar o x s n = refl
 

@@ -6,7 +6,8 @@ use Rattle.control.specs.declared.answers.Answer.{Answer}
 use Rattle.control.specs.declared.answers.Answer.TheVariants.{Done, Spent, Misplaced, LongCode, BadStart, NoInstruction, Reserved, Outside}
 use Rattle.control.specs.declared.kinds.Kind.{Kind}
 use Rattle.control.specs.declared.kinds.Kind.TheVariants.{Vector, GetStatus, PutStatus, LeftPattern, RightPattern, GetElement, GetLine, PutElement, PutLine, AddScalar}
-use Rattle.control.specs.Addresses.{address_of, bytes_of, aligned}
+use Rattle.control.specs.Addresses.{address_of, aligned}
+use Rattle.lanes.specs.Numbers.{bytes_in}
 use Rattle.control.specs.Kinds.{kind_of}
 use Rattle.machine.specs.declared.Machine.{Machine}
 use Rattle.machine.specs.Runs.{State, starts}
@@ -30,9 +31,9 @@ Misses GetStatus x base len = ⊥
 Misses PutStatus x base len = ⊥
 Misses LeftPattern x base len = ⊥
 Misses RightPattern x base len = ⊥
-Misses (GetElement w) x base len = Beyond (aligned (bytes_of w) x) base len
+Misses (GetElement w) x base len = Beyond (aligned (bytes_in w) x) base len
 Misses GetLine x base len = Beyond (aligned 16 x) base len
-Misses (PutElement w) x base len = Beyond (aligned (bytes_of w) x) base len
+Misses (PutElement w) x base len = Beyond (aligned (bytes_in w) x) base len
 Misses PutLine x base len = Beyond (aligned 16 x) base len
 Misses AddScalar x base len = ⊥
 

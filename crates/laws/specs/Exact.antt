@@ -1,8 +1,7 @@
 -- EVERY EXACT RESULT IN RANGE: for each instruction, what document 01, "Lane rules", asks before SAT stays as it was. Assumes nothing.
 use Rattle.std.specs.Prelude.{ℕ, ◌<◌, ◌^◌, ◌≡◌, false, List, ℤ, ◌+ℤ◌, Some}
 use Rattle.decode.specs.declared.Decoded.{Decoded}
-use Rattle.encodings.specs.declared.ops.Width.{Width}
-use Rattle.encodings.specs.declared.ops.Width.TheVariants as width
+use Rattle.lanes.specs.declared.Size.{Size}
 use Rattle.encodings.specs.declared.ops.Sign.{Sign}
 use Rattle.encodings.specs.declared.ops.Sign.TheVariants.{Unsigned, Signed}
 use Rattle.encodings.specs.declared.ops.Op.{Op}
@@ -10,13 +9,12 @@ use Rattle.encodings.specs.declared.ops.Op.TheVariants.{AddMod, AddCarry, AddSat
 use Rattle.lanes.specs.declared.Lane.{Lane}
 use Rattle.lanes.specs.declared.Op as lane_op
 use Rattle.lanes.specs.declared.Op.TheVariants as lane
-use Rattle.lanes.specs.declared.Size.{Size}
 use Rattle.lanes.specs.declared.Size.TheVariants.{Byte, Half, Word}
 use Rattle.lanes.specs.Integer.{signed, sat_u, sat_s}
 use Rattle.lanes.specs.Operations.{lanes_in, width_of}
 use Rattle.packing.specs.Resized.{count, lane_of_both, unsigned}
 use Rattle.packing.specs.Summed.{signed_word}
-use Rattle.compute.specs.Families.{size_of, by_sign}
+use Rattle.compute.specs.Families.{by_sign}
 use Rattle.effects.specs.Effects.{register}
 use Rattle.machine.specs.declared.Machine.{Machine}
 use Rattle.laws.specs.Sat.{bit127, lane_in}
@@ -34,33 +32,33 @@ abbrev pub LanesFitIn : Size → Size → (ℕ → ℕ → ℤ) → (ℕ → ℤ
 LanesFitIn s d reading taking a b = (j : ℕ) → j < count d → (taking (2 ^ width_of d) (reading (2 ^ width_of s) (lane_of_both s a b j))).clipped ≡ false
 
 -- vsum4ubs, vsum4sbs, vsum4shs
-abbrev pub QuarterSumsFit : Width → Sign → List ℕ → List ℕ → Type 0
-QuarterSumsFit width.Byte Unsigned a b = LanesFit Word lane.SumBytesU a b b
-QuarterSumsFit width.Byte Signed a b = LanesFit Word lane.SumBytesS a b b
-QuarterSumsFit width.Half Unsigned a b = Unit {0}
-QuarterSumsFit width.Half Signed a b = LanesFit Word lane.SumHalvesS a b b
-QuarterSumsFit width.Word s a b = Unit {0}
+abbrev pub QuarterSumsFit : Size → Sign → List ℕ → List ℕ → Type 0
+QuarterSumsFit Byte Unsigned a b = LanesFit Word lane.SumBytesU a b b
+QuarterSumsFit Byte Signed a b = LanesFit Word lane.SumBytesS a b b
+QuarterSumsFit Half Unsigned a b = Unit {0}
+QuarterSumsFit Half Signed a b = LanesFit Word lane.SumHalvesS a b b
+QuarterSumsFit Word s a b = Unit {0}
 
 -- the saturating packs
-abbrev pub PacksFit : Width → Sign → Sign → List ℕ → List ℕ → Type 0
-PacksFit width.Byte s t a b = Unit {0}
-PacksFit width.Half Unsigned Unsigned a b = LanesFitIn Half Byte unsigned sat_u a b
-PacksFit width.Half Unsigned Signed a b = Unit {0}
-PacksFit width.Half Signed Unsigned a b = LanesFitIn Half Byte signed sat_u a b
-PacksFit width.Half Signed Signed a b = LanesFitIn Half Byte signed sat_s a b
-PacksFit width.Word Unsigned Unsigned a b = LanesFitIn Word Half unsigned sat_u a b
-PacksFit width.Word Unsigned Signed a b = Unit {0}
-PacksFit width.Word Signed Unsigned a b = LanesFitIn Word Half signed sat_u a b
-PacksFit width.Word Signed Signed a b = LanesFitIn Word Half signed sat_s a b
+abbrev pub PacksFit : Size → Sign → Sign → List ℕ → List ℕ → Type 0
+PacksFit Byte s t a b = Unit {0}
+PacksFit Half Unsigned Unsigned a b = LanesFitIn Half Byte unsigned sat_u a b
+PacksFit Half Unsigned Signed a b = Unit {0}
+PacksFit Half Signed Unsigned a b = LanesFitIn Half Byte signed sat_u a b
+PacksFit Half Signed Signed a b = LanesFitIn Half Byte signed sat_s a b
+PacksFit Word Unsigned Unsigned a b = LanesFitIn Word Half unsigned sat_u a b
+PacksFit Word Unsigned Signed a b = Unit {0}
+PacksFit Word Signed Unsigned a b = LanesFitIn Word Half signed sat_u a b
+PacksFit Word Signed Signed a b = LanesFitIn Word Half signed sat_s a b
 
 -- of each operation: of the twenty-seven there is something to ask, and of the others nothing
 abbrev pub InRange : Op → List ℕ → List ℕ → List ℕ → Type 0
 InRange (AddMod w) a b c = Unit {0}
 InRange AddCarry a b c = Unit {0}
-InRange (AddSat w s) a b c = LanesFit (size_of w) (by_sign s lane.AddSatU lane.AddSatS) a b b
+InRange (AddSat w s) a b c = LanesFit w (by_sign s lane.AddSatU lane.AddSatS) a b b
 InRange (SubMod w) a b c = Unit {0}
 InRange SubCarry a b c = Unit {0}
-InRange (SubSat w s) a b c = LanesFit (size_of w) (by_sign s lane.SubSatU lane.SubSatS) a b b
+InRange (SubSat w s) a b c = LanesFit w (by_sign s lane.SubSatU lane.SubSatS) a b b
 InRange (Max w s) a b c = Unit {0}
 InRange (Min w s) a b c = Unit {0}
 InRange (Average w s) a b c = Unit {0}
