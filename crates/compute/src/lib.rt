@@ -19,7 +19,6 @@ pub fn compute(v: &mut [u8; 512], d: usize, a: usize, b: usize, c: usize, n: u8,
     requires { (d < 32) × (a < 32) × (b < 32) × (c < 32) }
     ensures { Leaves (computed op (at v.old a) (at v.old b) (at v.old c) a n) d v.old v.new result }
 {
-    let i = a as u8;
     match op {
         Op::Unknown => copy(v, d, a),
         Op::AddMod(w) => match w {
@@ -180,36 +179,39 @@ pub fn compute(v: &mut [u8; 512], d: usize, a: usize, b: usize, c: usize, n: u8,
             Width::Half => on_two(v, d, a, b, moves::vmrglh),
             Width::Word => on_two(v, d, a, b, moves::vmrglw),
         },
-        Op::Splat(w) => match w {
-            Width::Byte => on_one(
-                v,
-                d,
-                b,
-                |y: [u8; 16]| -> [u8; 16]
-                    ensures { result ≡ splat Size.Byte y i }
-                { moves::vspltb(y, i) },
-            ),
-            Width::Half => on_one(
-                v,
-                d,
-                b,
-                |y: [u8; 16]| -> [u8; 16]
-                    ensures { result ≡ splat Size.Half y i }
-                { moves::vsplth(y, i) },
-            ),
-            Width::Word => on_one(
-                v,
-                d,
-                b,
-                |y: [u8; 16]| -> [u8; 16]
-                    ensures { result ≡ splat Size.Word y i }
-                { moves::vspltw(y, i) },
-            ),
-        },
+        Op::Splat(w) => {
+            let i = a as u8;
+            match w {
+                Width::Byte => on_one(
+                    v,
+                    d,
+                    b,
+                    move |y: [u8; 16]| -> [u8; 16]
+                        ensures { result ≡ splat Size.Byte y i }
+                    { moves::vspltb(y, i) },
+                ),
+                Width::Half => on_one(
+                    v,
+                    d,
+                    b,
+                    move |y: [u8; 16]| -> [u8; 16]
+                        ensures { result ≡ splat Size.Half y i }
+                    { moves::vsplth(y, i) },
+                ),
+                Width::Word => on_one(
+                    v,
+                    d,
+                    b,
+                    move |y: [u8; 16]| -> [u8; 16]
+                        ensures { result ≡ splat Size.Word y i }
+                    { moves::vspltw(y, i) },
+                ),
+            }
+        }
         Op::SplatImmediate(w) => match w {
-            Width::Byte => vector::vspltisb(i).put(v, d),
-            Width::Half => vector::vspltish(i).put(v, d),
-            Width::Word => vector::vspltisw(i).put(v, d),
+            Width::Byte => vector::vspltisb(a as u8).put(v, d),
+            Width::Half => vector::vspltish(a as u8).put(v, d),
+            Width::Word => vector::vspltisw(a as u8).put(v, d),
         },
         Op::PackMod(w) => match w {
             Width::Byte => copy(v, d, a),
@@ -294,7 +296,7 @@ pub fn compute(v: &mut [u8; 512], d: usize, a: usize, b: usize, c: usize, n: u8,
             d,
             a,
             b,
-            |x: [u8; 16], y: [u8; 16]| -> [u8; 16]
+            move |x: [u8; 16], y: [u8; 16]| -> [u8; 16]
                 ensures { result ≡ slid x y (n % 16) }
             { slides::vsldoi(x, y, n) },
         ),
