@@ -19,7 +19,6 @@ pub fn compute(v: &mut [u8; 512], d: usize, a: usize, b: usize, c: usize, n: u8,
     requires { (d < 32) × (a < 32) × (b < 32) × (c < 32) }
     ensures { Leaves (computed op (at v.old a) (at v.old b) (at v.old c) a n) d v.old v.new result }
 {
-    let i = a as u8;
     match op {
         Op::AddMod(w) => match w {
             Size::Byte => on_two(v, d, a, b, vector::vaddubm),
@@ -179,36 +178,39 @@ pub fn compute(v: &mut [u8; 512], d: usize, a: usize, b: usize, c: usize, n: u8,
             Size::Half => on_two(v, d, a, b, moves::vmrglh),
             Size::Word => on_two(v, d, a, b, moves::vmrglw),
         },
-        Op::Splat(w) => match w {
-            Size::Byte => on_one(
-                v,
-                d,
-                b,
-                |y: [u8; 16]| -> [u8; 16]
-                    ensures { result ≡ splat Size.Byte y i }
-                { moves::vspltb(y, i) },
-            ),
-            Size::Half => on_one(
-                v,
-                d,
-                b,
-                |y: [u8; 16]| -> [u8; 16]
-                    ensures { result ≡ splat Size.Half y i }
-                { moves::vsplth(y, i) },
-            ),
-            Size::Word => on_one(
-                v,
-                d,
-                b,
-                |y: [u8; 16]| -> [u8; 16]
-                    ensures { result ≡ splat Size.Word y i }
-                { moves::vspltw(y, i) },
-            ),
-        },
+        Op::Splat(w) => {
+            let i = a as u8;
+            match w {
+                Size::Byte => on_one(
+                    v,
+                    d,
+                    b,
+                    move |y: [u8; 16]| -> [u8; 16]
+                        ensures { result ≡ splat Size.Byte y i }
+                    { moves::vspltb(y, i) },
+                ),
+                Size::Half => on_one(
+                    v,
+                    d,
+                    b,
+                    move |y: [u8; 16]| -> [u8; 16]
+                        ensures { result ≡ splat Size.Half y i }
+                    { moves::vsplth(y, i) },
+                ),
+                Size::Word => on_one(
+                    v,
+                    d,
+                    b,
+                    move |y: [u8; 16]| -> [u8; 16]
+                        ensures { result ≡ splat Size.Word y i }
+                    { moves::vspltw(y, i) },
+                ),
+            }
+        }
         Op::SplatImmediate(w) => match w {
-            Size::Byte => vector::vspltisb(i).put(v, d),
-            Size::Half => vector::vspltish(i).put(v, d),
-            Size::Word => vector::vspltisw(i).put(v, d),
+            Size::Byte => vector::vspltisb(a as u8).put(v, d),
+            Size::Half => vector::vspltish(a as u8).put(v, d),
+            Size::Word => vector::vspltisw(a as u8).put(v, d),
         },
         Op::PackMod(w) => match w {
             Size::Byte => copy(v, d, a),
@@ -293,7 +295,7 @@ pub fn compute(v: &mut [u8; 512], d: usize, a: usize, b: usize, c: usize, n: u8,
             d,
             a,
             b,
-            |x: [u8; 16], y: [u8; 16]| -> [u8; 16]
+            move |x: [u8; 16], y: [u8; 16]| -> [u8; 16]
                 ensures { result ≡ slid x y (n % 16) }
             { slides::vsldoi(x, y, n) },
         ),
