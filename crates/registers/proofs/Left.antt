@@ -2,7 +2,7 @@
 use Prim.Native.Nat.{ℕ}
 use mathlib.Core.List.{List}
 use mathlib.Core.Path.{◌≡◌, sym}
-use Rattle.groups.proofs.Same.{same_marked}
+use Rattle.lanes.proofs.Bridge.{same_marked}
 use Rattle.lanes.specs.declared.Marked.{Marked}
 use Rattle.registers.specs.Registers.{at, bare, Leaves, Holds}
 

@@ -1,7 +1,7 @@
 -- `register_bits::immediate` meets its contract.
 -- Assumes nothing.
 use mathlib.Core.Path.{refl, sym}
-use Rattle.groups.proofs.Same.{same_marked}
+use Rattle.lanes.proofs.Bridge.{same_marked}
 use Rattle.lanes.proofs.Applied.{applied_unmarked}
 use Rattle.lanes.specs.declared.Op.TheVariants.{SplatImmediate}
 use Rattle.vector.specs.Copies.{copies}
