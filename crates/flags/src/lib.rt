@@ -5,7 +5,7 @@ ghost use Rattle.std.specs.Prelude.{◌≡◌, true, cond, ◌&&◌};
 ghost use Rattle.flags.specs.Flags.{compares, status_of, from_status, marked_of, summary_of, recorded_of};
 
 use encodings::ops::Op;
-use groups::summary::{all_true, none_true};
+use lanes::{all_true, none_true};
 
 // The bits that an instruction can leave beside a vector. CR6 is a number of four bits.
 #[derive(Clone, Copy)]

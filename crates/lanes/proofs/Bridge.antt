@@ -101,13 +101,13 @@ module _ {r s : List ℕ} (e : r ≡ s) where
   of_four h k i j = omega arith & omega arith & omega arith & omega arith & e
 
 -- one, two and four lanes as a word
-abbrev one : Lane → MarkedWord
+abbrev pub one : Lane → MarkedWord
 one p = push (2 ^ 32) 0 none p
 
-abbrev two : Lane → Lane → MarkedWord
+abbrev pub two : Lane → Lane → MarkedWord
 two p q = push (2 ^ 16) 1 (push (2 ^ 16) 0 none p) q
 
-abbrev four : Lane → Lane → Lane → Lane → MarkedWord
+abbrev pub four : Lane → Lane → Lane → Lane → MarkedWord
 four p q r t = push (2 ^ 8) 3 (push (2 ^ 8) 2 (push (2 ^ 8) 1 (push (2 ^ 8) 0 none p) q) r) t
 
 -- lanes that stand bytes apart, side by side as four words
@@ -134,28 +134,31 @@ few ms h =
     let l : mask_l ms < 2 ^ 16 = lt_of_lt_of_le (mask_l-lt ms) (pow_mono {j = 16} h) in
     omega arith
 
+-- the operation at the lanes of a, b and c from byte k
+unfoldable pub lane_at : Size → Op → List ℕ → List ℕ → List ℕ → ℕ → Lane
+lane_at s op a b c k = lane_op op (width_of s) (modulus s) (number_at s a k) (number_at s b k) (number_at s c k)
+
 module _ (op : Op) (a b c : List ℕ) (ha : Bytes a) (hb : Bytes b) (hc : Bytes c) where
-  -- the operation at the lanes from byte k
-  unfoldable at : Size → ℕ → Lane
-  at s k = lane_op op (width_of s) (modulus s) (number_at s a k) (number_at s b k) (number_at s c k)
+  abbrev at : Size → ℕ → Lane
+  at s k = lane_at s op a b c k
 
   at-lt : (s : Size) (k : ℕ) → (at s k).value < modulus s
-  unfolding at
+  unfolding lane_at
   at-lt s k =
       below op (width_of s) (modulus s) (record { x = number_at s a k; y = number_at s b k; z = number_at s c k })
       (record { width = width_of_lem s; left = number-lt s a ha k; right = number-lt s b hb k; third = number-lt s c hc k })
 
-  in_word : (k : ℕ) → word_op Word op (word_from a k) (word_from b k) (word_from c k) ≡ one (at Word k)
-  unfolding at
+  pub in_word : (k : ℕ) → word_op Word op (word_from a k) (word_from b k) (word_from c k) ≡ one (at Word k)
+  unfolding lane_at
   in_word k = rw (word_0 a ha k, word_0 b hb k, word_0 c hc k)
 
-  in_halves : (k : ℕ) → word_op Half op (word_from a k) (word_from b k) (word_from c k) ≡ two (at Half k) (at Half (k + 2))
-  unfolding at
+  pub in_halves : (k : ℕ) → word_op Half op (word_from a k) (word_from b k) (word_from c k) ≡ two (at Half k) (at Half (k + 2))
+  unfolding lane_at
   in_halves k = rw (half_0 a ha k, half_0 b hb k, half_0 c hc k, half_1 a ha k, half_1 b hb k, half_1 c hc k)
 
-  in_bytes : (k : ℕ) → word_op Byte op (word_from a k) (word_from b k) (word_from c k)
+  pub in_bytes : (k : ℕ) → word_op Byte op (word_from a k) (word_from b k) (word_from c k)
       ≡ four (at Byte k) (at Byte (k + 1)) (at Byte (k + 2)) (at Byte (k + 3))
-  unfolding at
+  unfolding lane_at
   in_bytes k =
       rw (
         byte_0 a ha k,
@@ -182,7 +185,7 @@ module _ (op : Op) (a b c : List ℕ) (ha : Bytes a) (hb : Bytes b) (hc : Bytes 
   side-by-side Byte = rw (in_bytes 0, in_bytes 4, in_bytes 8, in_bytes 12) (of_bytes (at Byte) (at-lt Byte))
 
   zipped : (s : Size) (f : ℕ → ℕ → ℕ → Lane) → Agrees s op f → (n k : ℕ) → zip3 f (lanes_from s n k a) (lanes_from s n k b) (lanes_from s n k c) ≡ lanes-at s n k
-  unfolding at
+  unfolding lane_at
   zipped s f e zero k = refl
   zipped s f e (suc n) k = λ i. e (number_at s a k) (number_at s b k) (number_at s c k) (number-lt s a ha k) (number-lt s b hb k) (number-lt s c hc k) i ∷ zipped s f e n (k + bytes_in s) i
 

@@ -2,8 +2,6 @@ pub mod Bounds
 pub mod Known
 pub mod Signed
 pub mod Below
-pub mod Shift
-pub mod Parts
 pub mod Reorder
 pub mod Unclipped
 pub mod AllTrue
@@ -12,3 +10,4 @@ pub mod Sizes
 pub mod Recast
 pub mod Bridge
 pub mod Biased
+pub mod Summary

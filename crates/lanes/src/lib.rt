@@ -3,11 +3,9 @@
 
 ghost use Rattle.std.specs.Prelude.{◌≡◌};
 ghost use Rattle.lanes.specs.Placed.{Holds, laid};
+ghost use Rattle.lanes.specs.Summary.{all_true, none_true};
 
 use std::simd::prelude::*;
-
-pub mod at_lane;
-pub mod exact;
 
 // The operations of the instructions on lanes, in the order of document 01, "Encodings". U and S: the lanes are unsigned, signed.
 #[derive(Clone, Copy)]
@@ -135,4 +133,17 @@ pub fn of_words(v: u32x4) -> [u8; 16]
     ensures { result ≡ laid Size.Word v }
 {
     v.to_le_bytes().swizzle(WORDS_TURNED).to_array()
+}
+
+// What a comparison says of all its lanes: every word is all ones, or every word is zero.
+pub fn all_true(v: [u8; 16]) -> bool
+    ensures { result ≡ all_true v }
+{
+    words(v).simd_eq(u32x4::splat(4294967295)).to_bitmask() == 15
+}
+
+pub fn none_true(v: [u8; 16]) -> bool
+    ensures { result ≡ none_true v }
+{
+    words(v).simd_eq(u32x4::splat(0)).to_bitmask() == 15
 }

@@ -18,7 +18,7 @@ use Rattle.lanes.specs.Words.{MarkedWord, push}
 use Rattle.lanes.specs.Operations.{lanes_in, word_op, applied}
 use Rattle.lanes.specs.Order.{Bytes, at_place}
 use Rattle.lanes.proofs.Unclipped.{unmarked}
-use Rattle.groups.proofs.Places.{Fit, lane_at, in_word, in_halves, in_bytes}
+use Rattle.lanes.proofs.Bridge.{lane_at, in_word, in_halves, in_bytes}
 use Rattle.packing.specs.Resized.{marks_of_lanes, count, vector_of}
 use Rattle.laws.specs.Sat.{lane_in}
 
@@ -50,16 +50,13 @@ pub vector_clipped : (s : Size) (g : ℕ → Lane) → (vector_of s g).marks ≡
 unfolding vector_of
 vector_clipped s g = lanes_clipped (count s) g
 
-fit : (v : List ℕ) → Bytes v → Fit v
-fit v h i = record { fits = h i }
-
 module _ (op : Op) (a b c : List ℕ) (ha : Bytes a) (hb : Bytes b) (hc : Bytes c) where
   -- the marks of word j
   word_marks : (s : Size) (j : ℕ) → (at_place (word_op s op) a b c j).marks ≡ marks_of_lanes (lanes_in s) (lane_in s op a b c j)
   unfolding push lane_at
-  word_marks Word j = ap (λ (x : MarkedWord). x.marks) (in_word op a b c (fit a ha) (fit b hb) (fit c hc) (4 * j)) ∙ rw (add-zero (4 * j))
-  word_marks Half j = ap (λ (x : MarkedWord). x.marks) (in_halves op a b c (fit a ha) (fit b hb) (fit c hc) (4 * j)) ∙ rw (add-zero (4 * j))
-  word_marks Byte j = ap (λ (x : MarkedWord). x.marks) (in_bytes op a b c (fit a ha) (fit b hb) (fit c hc) (4 * j)) ∙ rw (add-zero (4 * j))
+  word_marks Word j = ap (λ (x : MarkedWord). x.marks) (in_word op a b c ha hb hc (4 * j)) ∙ rw (add-zero (4 * j))
+  word_marks Half j = ap (λ (x : MarkedWord). x.marks) (in_halves op a b c ha hb hc (4 * j)) ∙ rw (add-zero (4 * j))
+  word_marks Byte j = ap (λ (x : MarkedWord). x.marks) (in_bytes op a b c ha hb hc (4 * j)) ∙ rw (add-zero (4 * j))
 
   word_clipped : (s : Size) (j : ℕ) → (at_place (word_op s op) a b c j).marks ≡ 0 ↔ ((r : ℕ) → r < lanes_in s → (lane_in s op a b c j r).clipped ≡ false)
   word_clipped s j = rw (word_marks s j) (lanes_clipped (lanes_in s) (lane_in s op a b c j))

@@ -19,6 +19,6 @@ pub mod Exact
 pub mod Examples
 pub mod SingleInstructions
 pub mod SingleParts
-pub mod SingleGroups
+pub mod SingleLanes
 pub mod SingleBuffers
 pub mod SingleRegisters

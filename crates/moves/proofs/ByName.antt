@@ -3,7 +3,7 @@ use Rattle.std.proofs.Common.{◌≡◌, ℕ, suc, ◌+◌, ◌-◌, ◌*◌, �
 use Rattle.std.proofs.lemmas.Bool.{lt-leb}
 use Rattle.std.proofs.lemmas.Nat.{and_le_r, and_mask}
 use Rattle.std.proofs.lemmas.Simd.{SwzOk-from_below, swz_l, zip2_splat, zip2_splat_left, pick_l_whole, pick_l-range_with_len, get_or-chunk, length-chunk}
-use Rattle.std.proofs.lemmas.List.FromFn.{get_or-range_with_len}
+use Rattle.std.proofs.lemmas.List.FromFn.{get_or-map-range_with_len, length-map-range_with_len}
 use Rattle.std.proofs.Math.Nat.{zero-add}
 use Rattle.std.specs.List.{range_with_len}
 use lib.ListN.{get_or, replicate, length-map}
@@ -78,22 +78,26 @@ module _ (v : List ℕ) (k : ℕ) where
   pub repeated-is : (at : List ℕ) → length at ≡ 16 → map (λ x. get_or v (bit_and x 15) 0) (zip2 (λ a b. (a + b) % 256) (replicate 16 k) at) ≡ map (λ i. get_or v ((k + i) % 16) 0) at
   repeated-is at e = rw (zip2_splat_left (λ a b. (a + b) % 256) k 16 at e) (from_place at)
 
--- the numbers from n on, read off a list of the first 32
-module _ (n : ℕ) (h : n ≤ 16) where
-  numbers : List ℕ
-  numbers = chunk n (32 - n) (range_with_len 0 32)
+-- sixteen entries of a table, from k on, where entry j of n is f j
+module _ (f : ℕ → ℕ) (n k : ℕ) (room : k + 16 ≤ n) where
+  entries : List ℕ
+  entries = chunk k (n - k) (map f (range_with_len 0 n))
 
-  number : (j : ℕ) → j < 16 → get_or numbers j 0 ≡ n + j
-  unfolding numbers
-  number j k = get_or-chunk n (32 - n) (range_with_len 0 32) j 0 (omega arith) ∙ get_or-range_with_len 0 32 (n + j) 0 (omega arith) ∙ zero-add (n + j)
+  entry : (j : ℕ) → j < 16 → get_or entries j 0 ≡ f (k + j)
+  unfolding entries
+  entry j h =
+      get_or-chunk k (n - k) (map f (range_with_len 0 n)) j 0 (omega arith) ∙ get_or-map-range_with_len f 0 n (k + j) (k + j) 0 (omega arith) (zero-add (k + j))
 
-  in_turn : (k i : ℕ) → i + k ≤ 16 → places k i (λ j. get_or numbers j 0) ≡ places k i (λ j. n + j)
-  in_turn zero i l = refl
-  in_turn (suc k) i l =
-      let e = number i (omega arith) in
-      let r = in_turn k (suc i) (omega arith) in
+  in_turn : (m i : ℕ) → i + m ≤ 16 → places m i (λ j. get_or entries j 0) ≡ places m i (λ j. f (k + j))
+  in_turn zero i h = refl
+  in_turn (suc m) i h =
+      let e = entry i (omega arith) in
+      let r = in_turn m (suc i) (omega arith) in
       λ t. e t ∷ r t
 
-  pub counted-is : chunk 0 16 (chunk n (32 - n) (range_with_len 0 32)) ≡ places 16 0 (λ i. n + i)
-  unfolding numbers
-  counted-is = sym (pick_l-range_with_len 0 (chunk n (32 - n) (range_with_len 0 32)) 0 16 (omega (arith, length-chunk n (32 - n) (range_with_len 0 32) (omega arith)))) ∙ in_turn 16 0 (omega arith)
+  pub table-from : chunk 0 16 (chunk k (n - k) (map f (range_with_len 0 n))) ≡ places 16 0 (λ j. f (k + j))
+  unfolding entries
+  table-from =
+      let xs = map f (range_with_len 0 n) in
+      let l : length xs ≡ n = length-map-range_with_len f 0 n in
+      sym (pick_l-range_with_len 0 (chunk k (n - k) xs) 0 16 (omega (arith, length-chunk k (n - k) xs (omega arith)))) ∙ in_turn 16 0 (omega arith)

@@ -2,9 +2,10 @@
 -- Once for every width W of the lanes. Assumes nothing.
 use Rattle.std.proofs.Common.{◌≡◌, ℕ, zero, suc, ◌-◌, ◌%◌, ◌^◌, ◌<◌, ◌≤◌, Bool, true, false, not, cond, ltb, eqb, ◌||◌, List, [], ◌∷◌, map, length, bit_and, refl, sym, ap, ◌∙◌, arith, Fits, ltb-true, ltb-false, le-ltb, eq-eqb, ne_eqb}
 use Rattle.std.proofs.lemmas.Nat.{and_le_r, and_mask}
-use lib.ListN.{replicate, length-map}
+use Rattle.std.proofs.lemmas.Simd.{tops_compared}
+use lib.ListN.{get_or, replicate, length-map}
 use lib.Lanes.{Each1, zip2, sel_l, top, mask_l}
-use mir.Syntax.{Width, w8, w16, w32, w64, w128}
+use mir.Syntax.{Width}
 use mir.Val.{bits, hbits}
 use Rattle.lanes.specs.declared.Lane.{Lane}
 use Rattle.lanes.specs.declared.Marked.{Marked}
@@ -18,16 +19,7 @@ abbrev truth : Width → Bool → ℕ
 truth W t = cond t (2 ^ bits W - 1) 0
 
 pub read-truth : (W : Width) (t : Bool) → top (hbits W) (truth W t) ≡ t
-read-truth w8 true = refl
-read-truth w8 false = refl
-read-truth w16 true = refl
-read-truth w16 false = refl
-read-truth w32 true = refl
-read-truth w32 false = refl
-read-truth w64 true = refl
-read-truth w64 false = refl
-read-truth w128 true = refl
-read-truth w128 false = refl
+read-truth W t = ap (λ ms. get_or ms 0 false) (tops_compared W (λ (x y : ℕ). t) (0 ∷ []) (0 ∷ []))
 
 -- a mask of low bits leaves a number that fits
 pub mask-fits : (W : Width) (m : ℕ) → m < 2 ^ bits W → (xs : List ℕ) (n : ℕ) → Each1 (Fits W) (zip2 bit_and xs (replicate n m))

@@ -2,7 +2,7 @@
 #![tactic(auto)]
 
 use files::fail;
-use groups::summary::none_true;
+use lanes::none_true;
 use machine::{Machine, Report, number};
 use texts::{general_line, report_line, vector_line};
 

@@ -1,3 +1,4 @@
+-- `lanes::bytes` meets its contract. Assumes nothing.
 use Rattle.lanes.proofs.Recast.{as_bytes, in_array}
 use Rattle.lanes.proofs.bytes.Goals as goal
 

@@ -1,3 +1,4 @@
+-- `lanes::halves` meets its contract. Assumes nothing.
 use Rattle.lanes.proofs.Recast.{as_halves, in_array}
 use Rattle.lanes.proofs.halves.Goals as goal
 

@@ -1,3 +1,4 @@
+-- `lanes::of_bytes` meets its contract. Assumes nothing.
 use Rattle.lanes.proofs.Recast.{bytes_as_they_are}
 use Rattle.lanes.proofs.of_bytes.Goals as goal
 

@@ -1,3 +1,4 @@
+-- `lanes::of_halves` meets its contract. Assumes nothing.
 use Rattle.lanes.proofs.Recast.{of_halves as lemma}
 use Rattle.lanes.proofs.of_halves.Goals as goal
 

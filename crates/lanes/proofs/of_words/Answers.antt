@@ -1,3 +1,4 @@
+-- `lanes::of_words` meets its contract. Assumes nothing.
 use Rattle.lanes.proofs.Recast.{of_words as lemma}
 use Rattle.lanes.proofs.of_words.Goals as goal
 

@@ -1,3 +1,4 @@
+-- `lanes::words` meets its contract. Assumes nothing.
 use Rattle.lanes.proofs.Recast.{as_words, in_array}
 use Rattle.lanes.proofs.words.Goals as goal
 

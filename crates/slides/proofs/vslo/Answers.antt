@@ -1,10 +1,8 @@
-use Rattle.std.proofs.Common.{◌∙◌, ◌+◌, ℕ, ap, arith, mod-eq_of_lt}
-use Rattle.moves.specs.Chosen.{places}
-use Rattle.slides.specs.Slid.{zeros, octets}
-use Rattle.slides.proofs.Slid.{slid-is}
+use Rattle.std.proofs.Common.{rules, ◌≡◌, ◌∙◌, length, arith}
+use Rattle.slides.proofs.Slid.{slid-left}
 use Rattle.slides.proofs.vslo.Goals as goal
 
 pub returns : goal.returns
 returns c =
-    let e = mod-eq_of_lt c.octets.ensures.1 ∙ c.octets.ensures.0 in
-    c.vperm.ensures ∙ slid-is c.args.a zeros (octets c.args.b) (c.lvsl.ensures ∙ ap (λ (n : ℕ). places 16 0 (λ i. n + i)) e) (omega arith)
+    let n : length c.args.a ≡ 16 = search rules in
+    rw (← c.octets.ensures.0) (c.between_zeros.ensures ∙ slid-left c.args.a n c.octets.result (omega arith))

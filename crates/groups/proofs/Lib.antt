@@ -1,4 +1,0 @@
-pub mod Same
-pub mod Places
-pub mod Beside
-pub mod Stored

@@ -1,9 +1,0 @@
--- `groups::split::third_bytes_of` meets its contract.
--- Assumes nothing.
-use Rattle.lanes.specs.Numbers.{number_at}
-use borrow.Author.Rules.{rules}
-use Rattle.groups.proofs.split.third_bytes_of.Goals as goal
-
-pub returns : goal.returns
-unfolding number_at
-returns c = search rules

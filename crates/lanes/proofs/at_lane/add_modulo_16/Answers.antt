@@ -1,9 +1,0 @@
--- `lanes::at_lane::add_modulo_16` meets its contract.
--- Assumes nothing.
-use Rattle.lanes.specs.Integer.{modulo}
-use Rattle.lanes.specs.Operations.{lane_op}
-use Rattle.lanes.proofs.at_lane.add_modulo_16.Goals as goal
-
-pub returns : goal.returns
-unfolding lane_op modulo
-returns c = rw (c.as_it_is.ensures, c.wrapping_add_u16.ensures.value)

@@ -1,8 +1,0 @@
--- `lanes::at_lane::select` meets its contract.
--- Assumes nothing.
-use Rattle.lanes.specs.Operations.{lane_op}
-use Rattle.lanes.proofs.at_lane.select.Goals as goal
-
-pub returns : goal.returns
-unfolding lane_op
-returns c = c.as_it_is.ensures
