@@ -1,10 +1,11 @@
 -- Sums and differences of lanes, with their carries and ends: what the code computes at a lane is the operation, at every width. Assumes nothing.
-use Rattle.std.proofs.Common.{◌≡◌, ℕ, ◌+◌, ◌-◌, ◌%◌, ◌<◌, Bool, true, false, not, cond, eqb, ltb, leb, bit_xor, pos, ◌-ℤ◌, refl, ap, ◌∙◌, arith, pow_pos, mod-lt, mod-eq_of_lt, lt-ltb, le-ltb, ltb-true, ltb-false, leb-true, leb-false}
+use Rattle.std.proofs.Common.{◌≡◌, ℕ, ◌+◌, ◌-◌, ◌%◌, ◌^◌, ◌<◌, Bool, true, false, not, cond, eqb, ltb, leb, bit_xor, pos, ◌+ℤ◌, ◌-ℤ◌, refl, ap, ◌∙◌, arith, pow_pos, ◌+ℤ◌, mod-lt, mod-eq_of_lt, lt-ltb, le-ltb, ltb-true, ltb-false, leb-true, leb-false}
 use native.Mathlib.Nat.{mod-eq-sub-mod, mod-add-mod, add-mod_right, mod_self}
+use Rattle.lanes.specs.declared.Lane.{Lane}
 use Rattle.lanes.specs.declared.Op.TheVariants.{AddModulo, AddCarry, AddSatU, AddSatS, SubModulo, SubCarry, SubSatU, SubSatS}
 use Rattle.lanes.specs.declared.Size.{Size}
 use Rattle.lanes.specs.declared.Size.TheVariants.{Word}
-use Rattle.lanes.specs.Integer.{modulo, sat_u, saturated, clamp, outside, bits_of}
+use Rattle.lanes.specs.Integer.{bits_of, clamp, modulo, outside, sat_s, sat_u, saturated, signed}
 use Rattle.lanes.specs.Operations.{lane_op, width_of}
 use Rattle.lanes.proofs.Bridge.{modulus, lane, value, Law}
 use Rattle.lanes.proofs.Signed.{wrapped, minus_above, minus_below}
@@ -59,6 +60,14 @@ add_sat_s s = record {
       rw (on_xor s (ltb (((x + y) % modulus s + top s) % modulus s) ((x + top s) % modulus s)) (leb (top s) y), on_mask s (leb (top s) y))
       (add-signed (modulus s) (top s) x y t.is t.even t.some h k);
 }
+
+-- the sums of words, as `sum_of_words` gives them
+abbrev pub exact_sum : ℕ → ℕ → ℕ → Lane
+exact_sum x y z = sat_s (2 ^ 32) (signed (2 ^ 32) x +ℤ signed (2 ^ 32) y)
+
+pub add_words : Law Word AddSatS exact_sum
+unfolding lane_op
+add_words = record { agrees = λ x y z h k l. refl }
 
 -- a wrapped difference
 module _ (m x y : ℕ) (some : 0 < m) (h : x < m) (k : y < m) where

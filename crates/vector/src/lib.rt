@@ -1,5 +1,7 @@
 // The word-wise instructions by name: each lane of the result is the operation at the lanes of the operands.
 // An operation that looks at fewer than three operands is given the last one again.
+// Each width is a function of its own, though its law is one for all three: the operators on vectors are no impls of `std::ops` that a type
+// parameter could ask for, so one generic function would want a trait with a method for each operator, and three impls of it, which is no plainer.
 #![tactic(auto)]
 
 ghost use Rattle.std.specs.Prelude.{◌≡◌};
@@ -109,14 +111,7 @@ pub fn vaddshs(a: [u8; 16], b: [u8; 16]) -> Marked
 pub fn vaddsws(a: [u8; 16], b: [u8; 16]) -> Marked
     ensures { result ≡ applied Size.Word Op.AddSatS a b b }
 {
-    let x = words(a);
-    let y = words(b);
-    let top = u32x4::splat(2147483648);
-    let sum = x + y;
-    let minus = y.simd_ge(top);
-    let out = (sum + top).simd_lt(x + top) ^ minus;
-    let end = minus.select(top, u32x4::splat(2147483647));
-    marked(of_words(out.select(end, sum)), out.to_bitmask())
+    sum_of_words(words(a), words(b))
 }
 
 pub fn vsububm(a: [u8; 16], b: [u8; 16]) -> [u8; 16]

@@ -1,8 +1,7 @@
 -- `vector::vaddsws` by the law of its operation at a lane. Assumes nothing.
-use Rattle.lanes.specs.declared.Size.TheVariants.{Word}
-use Rattle.lanes.proofs.Bridge.{marked_on_two}
-use Rattle.vector.proofs.Sums.{add_sat_s}
+use Rattle.lanes.proofs.Bridge.{placed_two}
+use Rattle.vector.proofs.Sums.{add_words}
 use Rattle.vector.proofs.vaddsws.Goals as goal
 
 pub returns : goal.returns
-returns c = rw (c.marked.ensures, c.of_words.ensures, c.words-x.ensures.lanes, c.words-y.ensures.lanes) (marked_on_two (add_sat_s Word) c.words-x.ensures c.words-y.ensures)
+returns c = rw (c.sum_of_words.ensures, c.words.ensures.lanes, c.words-2.ensures.lanes) (placed_two add_words c.words.ensures c.words-2.ensures)
