@@ -1,32 +1,74 @@
-// Files, whole. What goes wrong is told on standard error, in a line that names the file.
+// Files, whole; and what is told on standard error where something is wrong: a line that names the file or the argument, and says why.
 #![tactic(auto)]
 
-ghost use Rattle.std.specs.Prelude.{◌≡◌, IsUtf8, MatchResult, length};
+ghost use Rattle.std.specs.Prelude.{◌≡◌, ◌≤◌, ◌<◌, IsUtf8, IsErr, IsErrOf, IfOk, MatchResult, length, take, vec_len};
+ghost use Rattle.files.specs.declared.FileError.TheVariants.{NameTooLong};
 ghost use Rattle.std.specs.Io.{ReadsAtMost};
-ghost use Rattle.lines.specs.Lines.{Counts};
+ghost use Rattle.std.specs.Io.KnownBytes.{Consumes, IsAtEnd};
 
+use std::alloc::Global;
+use std::error::Error;
+use std::fmt::Display;
 use std::fs::{File, OpenFile, OpenOptions};
 use std::io::{Cursor, ErrorKind, Read, Write};
 use std::random::RandomSource;
 use std::rt::Files;
-use std::{fs, io, str};
-use texts::{add, add_hex};
+use std::{fmt, fs, io, str};
+use texts::Hex;
 
-// Whether all was read, and how many bytes it had.
-#[derive(Clone, Copy)]
-pub struct Got {
-    pub good: bool,
-    pub count: usize,
+// Why a file is not read or not written.
+#[derive(Debug, Drop)]
+pub enum FileError {
+    Io(io::Error),
+    // It has more bytes than the most that are taken.
+    TooLong(usize),
+    NameTooLong,
 }
 
-const REFUSED: Got = Got {
-    good: false,
-    count: 0,
-};
+impl Display for FileError {
+    fn fmt<W: fmt::Write>(&self, f: &mut fmt::Formatter<W>) -> fmt::Result {
+        match self {
+            FileError::Io(error) => write!(f, "{}", Reason(error)),
+            FileError::TooLong(most) => write!(f, "longer than {most} bytes"),
+            FileError::NameTooLong => f.write_str("the name is too long"),
+        }
+    }
+}
 
-// Reads until buf is full or the input ends, and returns how many bytes it had. Where a read fails, the error says why, and buf may hold what was read before.
-pub fn read_all<R: Read>(reader: &mut R, buf: &mut [u8]) -> io::Result<usize>
+impl Error for FileError {}
+
+impl From<io::Error> for FileError {
+    fn from(error: io::Error) -> FileError {
+        FileError::Io(error)
+    }
+}
+
+// The most bytes of an error's text that are told; those of the system and of std are shorter.
+const LONGEST_TEXT: usize = 320;
+
+// An error's text without the number of the system's that std puts behind it.
+#[derive(Clone, Copy)]
+pub struct Reason<'a>(pub &'a io::Error);
+
+impl Display for Reason<'_> {
+    fn fmt<W: fmt::Write>(&self, f: &mut fmt::Formatter<W>) -> fmt::Result {
+        let mut text = Cursor::new([0u8; LONGEST_TEXT]);
+        let _ = write!(text, "{}", self.0);
+        let end = text.position().min(LONGEST_TEXT as u64) as usize;
+        let said = str::from_utf8(&text.get_ref()[..end]).unwrap_or("");
+        f.write_str(match said.rsplit_once(" (os error ") {
+            Some((name, _)) => name,
+            None => said,
+        })
+    }
+}
+
+// Reads to the end of the input or of buf, and answers how many bytes there were. A read that a signal interrupts is told as an error,
+// which std's read_to_end would take up again.
+fn fill<R: Read>(reader: &mut R, buf: &mut [u8]) -> io::Result<usize>
     ensures count { ReadsAtMost result buf.new }
+    ensures given { IfOk result (λ n. Consumes (R.remaining reader.old) (R.remaining reader.new) (take n buf.new)) }
+    ensures end { IfOk result (λ n. n < length buf.new → IsAtEnd (R.remaining reader.new)) }
     ensures kept { length buf.new ≡ length buf.old }
 {
     let mut done = 0;
@@ -40,45 +82,28 @@ pub fn read_all<R: Read>(reader: &mut R, buf: &mut [u8]) -> io::Result<usize>
     Ok(done)
 }
 
+// Reads to the end of the input, and no more than limit bytes.
+pub fn read_all<R: Read>(reader: &mut R, limit: usize, alloc: Global) -> io::Result<Vec<u8>>
+    ensures within { IfOk result (λ bytes. vec_len bytes ≤ limit) }
+    ensures given { IfOk result (λ bytes. Consumes (R.remaining reader.old) (R.remaining reader.new) bytes.items) }
+    ensures end { IfOk result (λ bytes. vec_len bytes < limit → IsAtEnd (R.remaining reader.new)) }
+{
+    let mut bytes = vec![in alloc; 0; limit]?;
+    let n = fill(reader, &mut bytes)?;
+    bytes.truncate(n);
+    Ok(bytes)
+}
+
 // Writes bytes; that they could not be written is told to nobody.
 pub fn say(to: &impl Print, bytes: &[u8]) {
     let _ = to.write_all(bytes);
 }
 
 // A line on standard error: what it is about, and what is wrong with it.
-pub fn complain(err: &impl Print, what: &[u8], wrong: &[u8]) {
+pub fn complain(err: &impl Print, what: &[u8], wrong: &impl Display) {
     say(err, what);
     say(err, b": ");
-    say(err, wrong);
-    say(err, b"\n");
-}
-
-// The most bytes of an error's text that are told; those of the system and of std are shorter.
-const LONGEST_TEXT: usize = 320;
-
-// The same line, where an error says what is wrong.
-pub fn fail(err: &impl Print, what: &[u8], error: &io::Error) {
-    let mut text = Cursor::new([0u8; LONGEST_TEXT]);
-    let _ = write!(text, "{error}");
-    let end = text.position().min(LONGEST_TEXT as u64) as usize;
-    complain(err, what, reason(&text.get_ref()[..end]));
-}
-
-// An error's text without the number of the system's that std puts behind it.
-fn reason(text: &[u8]) -> &[u8] {
-    let said = str::from_utf8(text).unwrap_or("");
-    match said.rsplit_once(" (os error ") {
-        Some((name, _)) => name.as_bytes(),
-        None => said.as_bytes(),
-    }
-}
-
-// The most that is taken is a byte less than what filled the buffer.
-fn too_long(err: &impl Print, path: &[u8], filled: usize) {
-    say(err, path);
-    say(err, b": longer than ");
-    let _ = err.print(filled.saturating_sub(1));
-    say(err, b" bytes\n");
+    let _ = err.println(wrong);
 }
 
 // A path as text, since files are opened by text alone.
@@ -91,44 +116,22 @@ pub fn name_of(path: &[u8]) -> io::Result<&str>
     }
 }
 
-fn read_named<R: Files>(rt: &R, path: &[u8], buf: &mut [u8]) -> io::Result<usize>
-    ensures { ReadsAtMost result buf.new }
+// All of a file. It refuses one that cannot be read, and one of more bytes than limit.
+pub fn read_file<R: Files>(
+    rt: &R,
+    path: &[u8],
+    limit: usize,
+    alloc: Global,
+) -> Result<Vec<u8>, FileError>
+    ensures within { IfOk result (λ bytes. vec_len bytes ≤ limit) }
+    ensures named { ¬ (IsUtf8 path.now) → IsErr result }
 {
     let mut file = File::open(rt, name_of(path)?)?;
-    read_all(&mut file, buf)
-}
-
-// All of a file. It refuses one that cannot be read, and one that fills buf, which has a byte more than the longest that is taken.
-pub fn read_file<R: Files>(rt: &R, err: &impl Print, path: &[u8], buf: &mut [u8]) -> Got
-    ensures { Counts result.count buf.new }
-{
-    match read_named(rt, path, buf) {
-        Ok(count) if count < buf.len() => Got { good: true, count },
-        Ok(count) => {
-            too_long(err, path, count);
-            REFUSED
-        }
-        Err(error) => {
-            fail(err, path, &error);
-            REFUSED
-        }
+    let bytes = read_all(&mut file, limit.saturating_add(1), alloc)?;
+    if bytes.len() > limit {
+        return Err(FileError::TooLong(limit));
     }
-}
-
-// The name of the file that is written before it takes its own name, with eight random digits; 0 where that is too long.
-#[tactic(auto, using(texts::proofs::Joined::hex_long))]
-fn part_name(rt: &impl RandomSource, path: &[u8], out: &mut [u8; 4096]) -> usize
-    ensures { Counts result out.new }
-{
-    if 4000 < path.len() {
-        return 0;
-    }
-    let mut random = [0u8; 4];
-    let _ = rt.fill_bytes(&mut random);
-    let a = add(out, 0, path);
-    let b = add(out, a, b".");
-    let c = add_hex(out, b, &random);
-    add(out, c, b".part")
+    Ok(bytes)
 }
 
 // Writes all, to the disk, and closes the file.
@@ -156,28 +159,27 @@ fn put_beside<R: Files>(rt: &R, part: &str, path: &str, bytes: &[u8]) -> io::Res
     done
 }
 
-fn put_named<R: Files>(rt: &R, part: &[u8], path: &[u8], bytes: &[u8]) -> io::Result<()> {
-    put_beside(rt, name_of(part)?, name_of(path)?, bytes)
+// The name of the file that is written before it takes its own name, with eight random digits.
+fn part_name(rt: &impl RandomSource, path: &str, alloc: Global) -> io::Result<String> {
+    let mut random = [0u8; 4];
+    let _ = rt.fill_bytes(&mut random);
+    Ok(format!(in alloc; "{path}.{}.part", Hex(&random))?)
 }
 
-// Writes a file beside the one that is meant and renames it, so that it is there whole or is as it was. It answers whether it is there.
+// Writes a file beside the one that is meant and renames it, so that it is there whole or is as it was.
 pub fn write_whole<R: Files + RandomSource>(
     rt: &R,
-    err: &impl Print,
     path: &[u8],
     bytes: &[u8],
-) -> bool {
-    let mut part = [0u8; 4096];
-    let n = part_name(rt, path, &mut part);
-    if n == 0 {
-        complain(err, path, b"the name is too long");
-        return false;
+    alloc: Global,
+) -> Result<(), FileError>
+    ensures long { 4000 < length path.now → IsErrOf result NameTooLong }
+    ensures named { ¬ (IsUtf8 path.now) → IsErr result }
+{
+    if 4000 < path.len() {
+        return Err(FileError::NameTooLong);
     }
-    match put_named(rt, &part[..n], path, bytes) {
-        Ok(()) => true,
-        Err(error) => {
-            fail(err, path, &error);
-            false
-        }
-    }
+    let name = name_of(path)?;
+    let part = part_name(rt, name, alloc)?;
+    Ok(put_beside(rt, part.as_str(), name, bytes)?)
 }
