@@ -34,8 +34,7 @@ pub fn effect(o: Order, w: Decoded, v: &mut [u8; 512], flags: Flags, mem: &mut [
     ensures { held_of v.new result mem.new ≡ effect_of o w (held_of v.old flags mem.old) }
 {
     match o {
-        Order::Refuse(_) => flags,
-        Order::SetGeneral(_) => flags,
+        Order::Refuse(_) | Order::SetGeneral(_) => flags,
         Order::Compute => computed(w, v, flags),
         Order::ReadStatus => {
             set_vector(v, w.d, status(flags));
