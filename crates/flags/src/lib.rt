@@ -1,7 +1,7 @@
 // NJ, SAT and CR6: document 01, "Lane rules".
 #![tactic(auto)]
 
-ghost use Rattle.std.specs.Prelude.{◌≡◌, true, cond, ◌&&◌};
+ghost use Rattle.std.specs.Prelude.{◌≡◌, true, ◌&&◌};
 ghost use Rattle.flags.specs.Flags.{compares, status_of, from_status, marked_of, summary_of, recorded_of};
 
 use encodings::ops::Op;
