@@ -3,8 +3,8 @@
 
 ghost use Rattle.control.specs.Orders.{InFields};
 
-use control::answers::number;
-use control::orders::Order;
+use control::answers::Answer;
+use control::orders::{Element, Order};
 use decode::Decoded;
 use files::say;
 
@@ -17,25 +17,25 @@ fn one(rt: &impl Print, what: &[u8], n: usize) {
     decimal(rt, n as u64);
 }
 
-fn three(rt: &impl Print, what: &[u8], bytes: usize, at: usize, place: usize) {
-    one(rt, what, bytes);
-    one(rt, b" of line ", at);
-    one(rt, b" at ", place);
+fn element(rt: &impl Print, what: &[u8], e: Element) {
+    one(rt, what, e.bytes);
+    one(rt, b" of line ", e.at);
+    one(rt, b" at ", e.place);
 }
 
-fn tell(rt: &impl Print, o: Order) {
-    match o {
-        Order::Refuse(a) => one(rt, b"answer ", number(a) as usize),
-        Order::SetGeneral(_) => say(rt, b"sets"),
-        Order::Compute => say(rt, b"computes"),
-        Order::ReadStatus => say(rt, b"reads status"),
-        Order::WriteStatus => say(rt, b"writes status"),
-        Order::PatternLeft(s) => one(rt, b"left ", s),
-        Order::PatternRight(s) => one(rt, b"right ", s),
-        Order::ReadLine(at) => one(rt, b"reads line ", at),
-        Order::WriteLine(at) => one(rt, b"writes line ", at),
-        Order::ReadElement { at, place, bytes } => three(rt, b"reads ", bytes, at, place),
-        Order::WriteElement { at, place, bytes } => three(rt, b"writes ", bytes, at, place),
+fn tell(rt: &impl Print, order: Result<Order, Answer>) {
+    match order {
+        Err(answer) => one(rt, b"answer ", u32::from(answer) as usize),
+        Ok(Order::SetGeneral(_)) => say(rt, b"sets"),
+        Ok(Order::Compute(_)) => say(rt, b"computes"),
+        Ok(Order::ReadStatus) => say(rt, b"reads status"),
+        Ok(Order::WriteStatus) => say(rt, b"writes status"),
+        Ok(Order::PatternLeft(s)) => one(rt, b"left ", s),
+        Ok(Order::PatternRight(s)) => one(rt, b"right ", s),
+        Ok(Order::ReadLine(at)) => one(rt, b"reads line ", at),
+        Ok(Order::WriteLine(at)) => one(rt, b"writes line ", at),
+        Ok(Order::ReadElement(e)) => element(rt, b"reads ", e),
+        Ok(Order::WriteElement(e)) => element(rt, b"writes ", e),
     }
 }
 
