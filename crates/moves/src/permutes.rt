@@ -22,6 +22,7 @@ pub fn vperm(a: [u8; 16], b: [u8; 16], c: [u8; 16]) -> [u8; 16]
     left.select(x, y).to_array()
 }
 
+// A pattern is sixteen of these in a row. A sum of vectors would be written byte by byte.
 static NUMBERS: [u8; 32] = [
     0, 1, 2, 3, 4, 5, 6, 7, 8, 9, 10, 11, 12, 13, 14, 15, 16, 17, 18, 19, 20, 21, 22, 23, 24, 25,
     26, 27, 28, 29, 30, 31,
