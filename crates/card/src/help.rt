@@ -1,19 +1,12 @@
 // How card is used.
-use crate::given;
 use files::say;
-use std::rt::Env;
 
-// Whether there are no arguments, or `help` alone; n counts the program's own name too.
-pub fn is_asked(rt: &impl Env, n: usize) -> bool {
-    if n < 2 {
-        return true;
+// Whether there are no arguments, or `help` alone; the first of args is the program's own name.
+pub fn is_asked(args: &[Option<Vec<u8>>]) -> bool {
+    match args {
+        [_, Some(word)] => word.as_slice() == b"help".as_slice(),
+        _ => args.len() < 2,
     }
-    if 2 < n {
-        return false;
-    }
-    let mut arg = [0u8; 8];
-    let k = given::arg(rt, 1, &mut arg);
-    matches!(&arg[..k], b"help")
 }
 
 const USAGE: &[u8] = b"usage: card KERNEL [name=value ..]

@@ -1,91 +1,70 @@
 // The files that arguments name.
-ghost use Rattle.lines.specs.Lines.{Counts};
-
-use crate::given;
-use crate::given::value_at;
-use files::{Got, complain, read_file, write_whole};
-use states::{Loaded, at_rest, machine_of};
+use crate::given::Named;
+use crate::refusal::{Fault, Refusal};
+use files::{read_file, write_whole};
+use machine::Machine;
+use std::alloc::Global;
 use std::random::RandomSource;
-use std::rt::{Env, Files};
+use std::rt::Files;
 
-fn file_in<R: Files>(rt: &R, err: &impl Print, arg: &[u8], buf: &mut [u8]) -> Got
-    ensures { Counts result.count buf.new }
-{
-    let from = value_at(arg);
-    read_file(rt, err, &arg[from..], buf)
+// The most bytes of a kernel: a word more than a run takes, so that the run itself refuses it.
+const MOST_CODE: usize = 65540;
+
+// The most bytes of a memory: a line more than a run takes.
+const MOST_MEMORY: usize = 65552;
+
+const STATE: usize = 660;
+
+fn file<'a, R: Files>(
+    rt: &R,
+    path: &'a [u8],
+    most: usize,
+    alloc: Global,
+) -> Result<Vec<u8>, Refusal<'a>> {
+    read_file(rt, path, most, alloc).map_err(|error| Refusal::Of(path, Fault::File(error)))
 }
 
-// The file that the argument at place i names; nothing where it is not given.
-pub fn memory_at<R: Env + Files>(rt: &R, err: &impl Print, i: usize, buf: &mut [u8]) -> Got
-    ensures { Counts result.count buf.new }
-{
-    if i == 0 {
-        return Got {
-            good: true,
-            count: 0,
-        };
-    }
-    let mut arg = [0u8; 4096];
-    let n = given::arg(rt, i, &mut arg);
-    file_in(rt, err, &arg[..n], buf)
+pub fn kernel<'a, R: Files>(rt: &R, path: &'a [u8], alloc: Global) -> Result<Vec<u8>, Refusal<'a>> {
+    file(rt, path, MOST_CODE, alloc)
 }
 
-fn state_in<R: Files>(rt: &R, err: &impl Print, arg: &[u8]) -> Loaded {
-    let mut bytes = [0u8; 661];
-    let got = file_in(rt, err, arg, &mut bytes);
-    if !got.good {
-        return Loaded {
-            good: false,
-            m: at_rest(),
-        };
+// Nothing where no memory is given.
+pub fn memory<'a, R: Files>(
+    rt: &R,
+    named: Option<Named<'a>>,
+    alloc: Global,
+) -> Result<Vec<u8>, Refusal<'a>> {
+    match named {
+        Some(named) => file(rt, named.value, MOST_MEMORY, alloc),
+        None => Ok(Vec::new(alloc)),
     }
-    let n = got.count;
-    let l = machine_of(&bytes[..n]);
-    if !l.good {
-        complain(err, arg, b"not 660 bytes long");
-    }
-    l
 }
 
 // The machine at the start: all zero where no state is given.
-pub fn start<R: Env + Files>(rt: &R, err: &impl Print, i: usize) -> Loaded {
-    if i == 0 {
-        return Loaded {
-            good: true,
-            m: at_rest(),
-        };
-    }
-    let mut arg = [0u8; 4096];
-    let n = given::arg(rt, i, &mut arg);
-    state_in(rt, err, &arg[..n])
-}
-
-fn save_in<R: Files + RandomSource>(rt: &R, err: &impl Print, arg: &[u8], bytes: &[u8]) -> bool {
-    let from = value_at(arg);
-    write_whole(rt, err, &arg[from..], bytes)
-}
-
-// Bytes to the file that the argument at place i names, and nowhere where it is not given.
-pub fn save<R: Env + Files + RandomSource>(
+pub fn start<'a, R: Files>(
     rt: &R,
-    err: &impl Print,
-    i: usize,
+    named: Option<Named<'a>>,
+    alloc: Global,
+) -> Result<Machine, Refusal<'a>> {
+    let Some(named) = named else {
+        return Ok(states::at_rest());
+    };
+    let bytes = file(rt, named.value, STATE, alloc)?;
+    states::machine_of(&bytes).ok_or(Refusal::Of(named.arg, Fault::NotAState))
+}
+
+// Bytes to the file that an argument names, and nowhere where it is not given.
+pub fn save<'a, R: Files + RandomSource>(
+    rt: &R,
+    named: Option<Named<'a>>,
     bytes: &[u8],
-) -> bool {
-    if i == 0 {
-        return true;
-    }
-    let mut arg = [0u8; 4096];
-    let n = given::arg(rt, i, &mut arg);
-    save_in(rt, err, &arg[..n], bytes)
-}
-
-// The same, of a machine's bytes.
-pub fn save_state<R: Env + Files + RandomSource>(
-    rt: &R,
-    err: &impl Print,
-    i: usize,
-    state: &[u8; 660],
-) -> bool {
-    save(rt, err, i, state)
+    alloc: Global,
+) -> Result<(), Refusal<'a>> {
+    let Some(named) = named else {
+        return Ok(());
+    };
+    write_whole(rt, named.value, bytes, alloc).map_err(|error| Refusal::Of(
+        named.value,
+        Fault::File(error),
+    ))
 }

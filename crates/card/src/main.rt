@@ -4,108 +4,82 @@
 mod given;
 mod help;
 mod loading;
+mod refusal;
 
-use files::complain;
-use given::{Numbers, arg_count, arguments, numbers_at, text_outputs, two_outputs};
-use loading::{memory_at, save, save_state, start};
-use machine::Machine;
-use std::random::RandomSource;
-use std::rt::{Env, Files};
+use files::{Reason, complain};
+use given::{Given, args};
+use refusal::{Fault, Refusal};
+use std::alloc::Global;
 
-// The run, once everything that it needs is there.
-fn perform<R: Env + Files + RandomSource + Print>(
-    rt: &R,
+// The most words of a kernel: one more than a run takes, so that the run itself refuses it.
+const MOST_WORDS: usize = 16385;
+
+// Reads all that the run needs, runs, writes what it left to the files that are named, and prints it.
+fn perform<'a>(
+    rt: &HostRuntime,
     err: &impl Print,
-    code: &[u32],
-    memory: &mut [u8],
-    m: Machine,
-    at: [usize; 7],
-    n: Numbers,
-) {
-    let r = m.run(code, memory, n.base, n.place, n.allowance);
-    let how = r.report;
-    let after = r.m;
-    if !save(rt, err, at[2], memory) {
-        return;
-    }
+    path: &'a [u8],
+    given: Given<'a>,
+    alloc: Global,
+) -> Result<(), Refusal<'a>> {
+    given.two_outputs()?;
+    let numbers = given.numbers()?;
+    given.text_outputs()?;
+    let raw = loading::kernel(rt, path, alloc)?;
+    let mut code = [0u32; MOST_WORDS];
+    let Some(count) = reading::words(&raw, &mut code) else {
+        return Err(Refusal::Of(path, Fault::UnevenKernel));
+    };
+    let mut memory = loading::memory(rt, given.memory, alloc)?;
+    let m = loading::start(rt, given.state, alloc)?;
+    let outcome = m.run(
+        &code[..count],
+        &mut memory,
+        numbers.base,
+        numbers.place,
+        numbers.allowance,
+    );
+    let after = outcome.m;
+    loading::save(rt, given.memory_out, &memory, alloc)?;
     let mut state = [0u8; 660];
     states::state_of(after, &mut state);
-    if !save_state(rt, err, at[3], &state) {
-        return;
-    }
-    printing::report(rt, err, how, after);
-    let v = after.v;
-    printing::vectors(rt, err, v);
-    let g = after.g;
-    printing::generals(rt, err, g);
+    loading::save(rt, given.state_out, &state, alloc)?;
+    printing::report(rt, err, outcome.report, after);
+    printing::vectors(rt, err, after.v);
+    printing::generals(rt, err, after.g);
+    Ok(())
 }
 
-fn with_code<R: Env + Files + RandomSource + Print>(
-    rt: &R,
+// A kernel's path that is too long to be taken stands for no name.
+fn card<'a>(
+    rt: &HostRuntime,
     err: &impl Print,
-    code: &[u32],
-    at: [usize; 7],
-    n: Numbers,
-) {
-    let mut memory = [0u8; 65553];
-    let got = memory_at(rt, err, at[0], &mut memory);
-    if !got.good {
-        return;
-    }
-    let l = start(rt, err, at[1]);
-    if !l.good {
-        return;
-    }
-    let m = l.m;
-    let k = got.count;
-    perform(rt, err, code, &mut memory[..k], m, at, n);
-}
-
-// The kernel: at most a word more than a run takes, so that the run itself refuses it.
-fn with_arguments<R: Env + Files + RandomSource + Print>(
-    rt: &R,
-    err: &impl Print,
-    at: [usize; 7],
-    n: Numbers,
-) {
-    let mut path = [0u8; 4096];
-    let k = given::arg(rt, 1, &mut path);
-    let mut raw = [0u8; 65541];
-    let got = files::read_file(rt, err, &path[..k], &mut raw);
-    if !got.good {
-        return;
-    }
-    let length = got.count;
-    let mut code = [0u32; 16385];
-    let w = reading::words(&raw[..length], &mut code);
-    if !w.good {
-        complain(err, &path[..k], b"the length is no multiple of 4");
-        return;
-    }
-    let count = w.count;
-    with_code(rt, err, &code[..count], at, n);
+    args: &'a [Option<Vec<u8>>],
+    alloc: Global,
+) -> Result<(), Refusal<'a>> {
+    let given = Given::of(args)?;
+    let path: &[u8] = match args.get(1) {
+        Some(Some(path)) => path,
+        _ => b"",
+    };
+    perform(rt, err, path, given, alloc)
 }
 
 fn main(rt: HostRuntime) {
+    let alloc = rt.alloc();
     let err = rt.stderr();
-    let n = arg_count(&rt);
-    if help::is_asked(&rt, n) {
+    let args = match args(&rt, alloc) {
+        Ok(args) => args,
+        Err(error) => {
+            complain(&err, b"arguments", &Reason(&error));
+            return;
+        }
+    };
+    if help::is_asked(&args) {
         help::print(&rt);
         return;
     }
-    let g = arguments(&rt, &err, n);
-    if !g.good {
-        return;
-    }
-    let at = g.at;
-    if !two_outputs(&rt, &err, at) {
-        return;
-    }
-    let s = numbers_at(&rt, &err, at);
-    if !s.good {
-        return;
-    }
-    if text_outputs(&rt, &err, at) {
-        with_arguments(&rt, &err, at, s);
+    if let Err(refusal) = card(&rt, &err, &args, alloc) {
+        refusal.tell(&err);
     }
 }
