@@ -2,7 +2,7 @@
 #![tactic(auto)]
 
 use files::say;
-use machine::{Ran, number};
+use machine::Ran;
 use std::io::Read;
 use texts::put_words;
 
@@ -10,7 +10,7 @@ fn reply(rt: &impl Print, ran: Ran, memory: &[u8]) {
     let Ran { report, m } = ran;
     let mut head = [0u8; 12];
     put_words(
-        &[number(report.answer), report.count, report.place],
+        &[u32::from(report.answer), report.count, report.place],
         &mut head,
     );
     say(rt, &head);
