@@ -7,7 +7,7 @@ use mir.Val.{hbits}
 use mir.Syntax.{Width}
 use mir.ValLaws.{to_z-of_z, to_z_pos}
 use Rattle.lanes.specs.Integer.{signed}
-use Rattle.lanes.proofs.Bounds.{mag-add, mag-sub, mag-mul}
+use Rattle.lanes.proofs.Bounds.{mag-add, mag-mul}
 
 pub record Known (A a : ℤ) (k : ℕ) : Type 0 where
   pub is : A ≡ a
@@ -21,23 +21,9 @@ module _ (W : Width) where
   pub kept : {A a : ℤ} {k : ℕ} → Known A a k → T (leb k (2 ^ hbits W)) → Known (to_z W (of_z W A)) a k
   kept {A} e t = record { is = to_z-of_z W A (fits e t) ∙ e.is; small = e.small }
 
-  -- an unsigned number, and what a call told of its result
+  -- an unsigned number
   pub nat : (n k : ℕ) → n < k → T (leb k (2 ^ hbits W)) → Known (to_z W n) (pos n) k
   nat n k h t = record { is = to_z_pos W n (lt_of_lt_of_le h (leb→le k (2 ^ hbits W) t)); small = h }
-
-  pub told : {A a : ℤ} (k : ℕ) → A ≡ a → mag A < k → T (leb k (2 ^ hbits W)) → Known (to_z W (of_z W A)) a k
-  told k e h t = kept (record { is = e; small = rw e at h }) t
-
-  -- a parameter, and that it is what it was
-  pub param : (k : ℕ) (z : ℤ) → mag z < k → T (leb k (2 ^ hbits W)) → Known (to_z W (of_z W z)) z k
-  param k z h t = told k refl h t
-
-  pub again : (z : ℤ) → SFits W z → to_z W (of_z W z) ≡ z
-  again z h = to_z-of_z W z h
-
--- a constant
-pub const : (z : ℤ) → Known z z (suc (mag z))
-const z = record { is = refl; small = omega arith }
 
 mag_below : (x m : ℕ) → x < m → mag (pos x -ℤ pos m) ≡ m - suc x
 mag_below x zero h = absurd (not-suc-le-zero h)
@@ -51,16 +37,13 @@ pub size : (m x : ℕ) → x < m → mag (signed m x) ≤ m / 2
 unfolding signed
 size m x h = mag-cond (ltb x (m / 2)) m x refl h
 
--- what `read` gives: a lane of at most k values
+-- a lane that was read, of at most k values
 pub lane : (W : Width) (k : ℕ) {a : ℤ} {m x : ℕ} → a ≡ signed m x → x < m → m ≤ k → T (leb (k / 2 + 1) (2 ^ hbits W)) → Known (to_z W (of_z W a)) (signed m x) (k / 2 + 1)
 lane W k {m} {x} e h l t = kept W (record { is = e; small = omega (arith, size m x h) }) t
 
 module _ {A B a b : ℤ} {j k : ℕ} (e : Known A a j) (f : Known B b k) where
   pub plus : Known (A +ℤ B) (a +ℤ b) (j + k)
   plus = record { is = rw (e.is, f.is); small = omega (arith, mag-add a b, e.small, f.small) }
-
-  pub minus : Known (A -ℤ B) (a -ℤ b) (j + k + 1)
-  minus = record { is = rw (e.is, f.is); small = omega (arith, mag-sub a b, e.small, f.small) }
 
   pub times : Known (A *ℤ B) (a *ℤ b) (j * k + 1)
   times = record { is = rw (e.is, f.is); small = omega (arith, mag-mul a b, mul-le-mul e.small f.small) }

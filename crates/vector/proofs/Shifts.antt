@@ -1,5 +1,5 @@
 -- Shifts, rotations and averages of lanes: what the code computes at a lane is the operation, at every width. Assumes nothing.
-use Rattle.std.proofs.Common.{◌≡◌, ℕ, zero, suc, ◌+◌, ◌-◌, ◌*◌, ◌/◌, ◌%◌, ◌^◌, ◌<◌, ◌≤◌, Bool, true, false, ltb, List, [], ◌∷◌, pos, ◌+ℤ◌, ◌-ℤ◌, bit_and, bit_or, bit_xor, refl, sym, ap, ◌∙◌, arith, pow_pos, mod-lt, mod-eq_of_lt, div-le_self, ltb-true, ltb-false}
+use Rattle.std.proofs.Common.{◌≡◌, ℕ, zero, suc, ◌+◌, ◌-◌, ◌*◌, ◌/◌, ◌%◌, ◌^◌, ◌<◌, ◌≤◌, Bool, true, false, ltb, List, [], ◌∷◌, pos, ◌+ℤ◌, ◌-ℤ◌, bit_and, bit_or, bit_xor, refl, sym, ap, ◌∙◌, arith, pow_pos, mod-lt, mod-eq_of_lt, div-le_self, ltb-true, ltb-false, not, cond, leb, le-ltb, lt-ltb, leb-true, leb-false}
 use lib.Lanes.{Each2, zip2}
 use lib.ListN.{replicate}
 use lib.Bits.{or_add_and, xor_add_and, or_lt}
@@ -7,15 +7,15 @@ use lib.Signed.{shr_z}
 use native.Mathlib.Nat.{add-mod_right, mod-add-mod}
 use Rattle.std.proofs.Math.Nat.{add-mul, suc-mul, div-add-mod', div-lt_iff_lt-mul, div-div-eq-div-mul}
 use Rattle.std.proofs.lemmas.Int.{ints}
-use Rattle.std.proofs.lemmas.Nat.{and_le_r, and_mask, div-mul-add, pow-add, shl-shr}
+use Rattle.std.proofs.lemmas.Nat.{and_le_r, and_mask, div-mul-add, pow-add}
 use Rattle.lanes.specs.declared.Op.TheVariants.{AvgU, AvgS, RotateLeft, ShiftLeft, ShiftRight, ShiftRightAlgebraic}
 use Rattle.lanes.specs.declared.Size.{Size}
 use Rattle.lanes.specs.declared.Size.TheVariants.{Byte, Half, Word}
-use Rattle.lanes.specs.Integer.{signed, modulo}
+use Rattle.lanes.specs.Integer.{bits_of, signed, modulo}
 use Rattle.lanes.specs.Operations.{lane_op, width_of}
 use Rattle.lanes.proofs.Bridge.{modulus, value, Law}
 use Rattle.lanes.proofs.Signed.{by_bias, minus_above, minus_below}
-use Rattle.vector.proofs.Masks.{top, half_of}
+use Rattle.vector.proofs.Masks.{top, mask, on, on_mask, half_of}
 use Rattle.vector.proofs.Sums.{difference}
 
 -- half of a sum, rounded up
@@ -126,34 +126,34 @@ rotate_left s = record {
       rw (round s x y, amount-is s y, mod-add-mod (x * 2 ^ (y % width_of s)) (modulus s) (x / 2 ^ (width_of s - y % width_of s))) refl;
 }
 
--- half of the range, shifted
-module _ (s : Size) (y : ℕ) where
-  apart : top s ≡ 2 ^ (width_of s - 1 - y % width_of s) * 2 ^ (y % width_of s)
-  apart = ap (λ (n : ℕ). 2 ^ n) (sums s) ∙ pow-add 2 (width_of s - 1 - y % width_of s) (y % width_of s)
-    where
-      sums : (s : Size) → width_of s - 1 ≡ width_of s - 1 - y % width_of s + y % width_of s
-      sums Byte = omega arith
-      sums Half = omega arith
-      sums Word = omega arith
+-- a shift that copies the sign, where u says that x is negative
+abbrev turned : ℕ → Bool → ℕ → ℕ
+turned m u x = cond u (m - 1 - x) x
 
-  few : top s / 2 ^ (y % width_of s) ≡ 2 ^ (width_of s - 1 - y % width_of s)
-  few = ap (λ (n : ℕ). n / 2 ^ (y % width_of s)) apart ∙ shl-shr (2 ^ (width_of s - 1 - y % width_of s)) (y % width_of s)
+with-sign : (m d x : ℕ) → 0 < d → x < m → (u : Bool) → ltb x (m / 2) ≡ not u → turned m u (turned m u x / d) ≡ bits_of m (shr_z (cond (not u) (pos x) (pos x -ℤ pos m)) d)
+with-sign m d x some h true e =
+    let a : m - suc x ≡ m - 1 - x = omega arith in
+    let b : (m - 1 - x) / d < m = omega (arith, div-le_self (m - 1 - x) d) in
+    rw (minus_below x m h, a, mod-eq_of_lt b) (omega arith)
+with-sign m d x some h false e =
+    let b : x / d < m = omega (arith, div-le_self x d) in
+    rw (mod-eq_of_lt b) refl
 
-pub shift_right_algebraic : (s : Size) → Law s ShiftRightAlgebraic (value (λ x y z. (raised s x / 2 ^ amount s y + (modulus s - top s / 2 ^ amount s y)) % modulus s))
-unfolding lane_op modulo
+tested : (h x : ℕ) (u : Bool) → leb h x ≡ u → ltb x h ≡ not u
+tested h x true e = le-ltb x h (leb-true h x e)
+tested h x false e = lt-ltb x h (leb-false h x e)
+
+abbrev pub minus : Size → ℕ → Bool
+minus s x = on s (mask s (leb (top s) x))
+
+pub shift_right_algebraic : (s : Size) → Law s ShiftRightAlgebraic (value (λ x y z. cond (minus s x) (modulus s - 1 - cond (minus s x) (modulus s - 1 - x) x / 2 ^ amount s y) (cond (minus s x) (modulus s - 1 - x) x / 2 ^ amount s y)))
+unfolding lane_op modulo signed
 shift_right_algebraic s = record {
   agrees =
       λ x y z h k l.
-      let t = half_of s in
-      let m = modulus s in
-      let some : 0 < m = pow_pos (width_of s) in
-      let e : m ≡ m / 2 + m / 2 = rw (← t.is) t.even in
-      let n = y % width_of s in
-      let j = 2 ^ (width_of s - 1 - n) in
-      let p : signed m x ≡ pos (raised s x) -ℤ pos (j * 2 ^ n) = sym (rw t.is (by_bias m x h e)) ∙ ap (λ (i : ℕ). pos (raised s x) -ℤ pos i) (apart s y) in
-      let g : raised s x / 2 ^ n < m = omega (arith, div-le_self (raised s x) (2 ^ n), mod-lt (x + top s) some) in
-      let o : j < m = omega (arith, few s y, div-le_self (top s) (2 ^ n), t.even, t.some) in
-      rw (amount-is s y, few s y, p, shifted (2 ^ n) j (raised s x) (pow_pos n), difference m (raised s x / 2 ^ n) j some g o) refl;
+      let u = leb (top s) x in
+      let e : ltb x (modulus s / 2) ≡ not u = rw (← (half_of s).is) (tested (top s) x u refl) in
+      rw (on_mask s u, amount-is s y, e, with-sign (modulus s) (2 ^ (y % width_of s)) x (pow_pos (y % width_of s)) h u e) refl;
 }
 
 -- the amounts of bytes are below eight

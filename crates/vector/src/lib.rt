@@ -453,15 +453,15 @@ pub fn vsrw(a: [u8; 16], b: [u8; 16]) -> [u8; 16]
     of_words(x >> (y & u32x4::splat(31)))
 }
 
-// With half of the range added, a lane and its sign are shifted apart.
+// The bits of a negative lane are inverted, shifted, and inverted again, so that ones come in from the left.
 pub fn vsrab(a: [u8; 16], b: [u8; 16]) -> [u8; 16]
     ensures { result ≡ (applied Size.Byte Op.ShiftRightAlgebraic a b b).bytes }
 {
     let x = bytes(a);
     let y = bytes(b);
-    let top = u8x16::splat(128);
-    let s = y & u8x16::splat(7);
-    of_bytes(((x + top) >> s) - (top >> s))
+    let minus = x.simd_ge(u8x16::splat(128));
+    let moved = minus.select(!x, x) >> (y & u8x16::splat(7));
+    of_bytes(minus.select(!moved, moved))
 }
 
 pub fn vsrah(a: [u8; 16], b: [u8; 16]) -> [u8; 16]
@@ -469,9 +469,9 @@ pub fn vsrah(a: [u8; 16], b: [u8; 16]) -> [u8; 16]
 {
     let x = halves(a);
     let y = halves(b);
-    let top = u16x8::splat(32768);
-    let s = y & u16x8::splat(15);
-    of_halves(((x + top) >> s) - (top >> s))
+    let minus = x.simd_ge(u16x8::splat(32768));
+    let moved = minus.select(!x, x) >> (y & u16x8::splat(15));
+    of_halves(minus.select(!moved, moved))
 }
 
 pub fn vsraw(a: [u8; 16], b: [u8; 16]) -> [u8; 16]
@@ -479,9 +479,9 @@ pub fn vsraw(a: [u8; 16], b: [u8; 16]) -> [u8; 16]
 {
     let x = words(a);
     let y = words(b);
-    let top = u32x4::splat(2147483648);
-    let s = y & u32x4::splat(31);
-    of_words(((x + top) >> s) - (top >> s))
+    let minus = x.simd_ge(u32x4::splat(2147483648));
+    let moved = minus.select(!x, x) >> (y & u32x4::splat(31));
+    of_words(minus.select(!moved, moved))
 }
 
 // Bit by bit.
