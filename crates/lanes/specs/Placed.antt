@@ -35,3 +35,7 @@ pub record Holds (s : Size) (v r : List ℕ) : Type 0 where
 -- lanes side by side in a vector: bit i of the marks is that of lane i
 abbrev pub placed : Size → List Lane → Marked
 placed s ls = record { bytes = laid s (map (λ l. l.value) ls); marks = mask_l (map (λ l. l.clipped) ls) }
+
+-- a vector, and the low 32 bits of a mask as its marks
+abbrev pub with_marks : List ℕ → ℕ → Marked
+with_marks bytes mask = record { bytes = bytes; marks = mask % 2 ^ 32 }

@@ -2,7 +2,7 @@
 #![tactic(auto)]
 
 ghost use Rattle.std.specs.Prelude.{◌≡◌};
-ghost use Rattle.lanes.specs.Placed.{Holds, laid};
+ghost use Rattle.lanes.specs.Placed.{Holds, laid, with_marks};
 ghost use Rattle.lanes.specs.Summary.{all_true, none_true};
 
 use std::simd::prelude::*;
@@ -133,6 +133,17 @@ pub fn of_words(v: u32x4) -> [u8; 16]
     ensures { result ≡ laid Size.Word v }
 {
     v.to_le_bytes().swizzle(WORDS_TURNED).to_array()
+}
+
+// A vector, and the bits of a mask as its marks.
+#[inline(always)]
+pub fn with_marks(bytes: [u8; 16], mask: u64) -> Marked
+    ensures { result ≡ with_marks bytes mask }
+{
+    Marked {
+        bytes,
+        marks: (mask % 4294967296) as u32,
+    }
 }
 
 // What a comparison says of all its lanes: every word is all ones, or every word is zero.

@@ -4,19 +4,8 @@ ghost use Rattle.std.specs.Prelude.{◌≡◌, ◌≤◌, ◌%◌, ◌^◌, map}
 ghost use Rattle.lanes.specs.Placed.{placed};
 ghost use Rattle.packing.specs.Resized.{within};
 
-use lanes::{Marked, Size, of_bytes, of_halves};
+use lanes::{Marked, Size, of_bytes, of_halves, with_marks};
 use std::simd::prelude::*;
-
-// A vector, and the bits of a mask as its marks.
-#[inline(always)]
-fn marked(bytes: [u8; 16], mask: u64) -> Marked
-    ensures { (result.bytes ≡ bytes) × (result.marks ≡ mask % 2 ^ 32) }
-{
-    Marked {
-        bytes,
-        marks: (mask % 4294967296) as u32,
-    }
-}
 
 // The lower half of each lane.
 #[inline(always)]
@@ -40,7 +29,7 @@ pub fn to_bytes(v: u16x16, lo: u16, hi: u16) -> Marked
     ensures { result ≡ placed Size.Byte (map (within (2 ^ 8) lo hi) v) }
 {
     let near = v.simd_clamp(u16x16::splat(lo), u16x16::splat(hi));
-    marked(of_bytes(low_bytes(near)), v.simd_ne(near).to_bitmask())
+    with_marks(of_bytes(low_bytes(near)), v.simd_ne(near).to_bitmask())
 }
 
 #[inline(always)]
@@ -49,5 +38,5 @@ pub fn to_halves(v: u32x8, lo: u32, hi: u32) -> Marked
     ensures { result ≡ placed Size.Half (map (within (2 ^ 16) lo hi) v) }
 {
     let near = v.simd_clamp(u32x8::splat(lo), u32x8::splat(hi));
-    marked(of_halves(low_halves(near)), v.simd_ne(near).to_bitmask())
+    with_marks(of_halves(low_halves(near)), v.simd_ne(near).to_bitmask())
 }

@@ -8,13 +8,13 @@ ghost use Rattle.std.specs.Prelude.{◌≡◌};
 ghost use Rattle.lanes.specs.Operations.{applied};
 ghost use Rattle.vector.specs.Copies.{copies};
 
-use lanes::{Marked, Op, Size, bytes, halves, of_bytes, of_halves, of_words, words};
+use lanes::{Marked, Op, Size, bytes, halves, of_bytes, of_halves, of_words, with_marks, words};
 use std::simd::prelude::*;
 
 mod parts;
 
 use parts::{
-    MultiplyLane, as_bits, marked, saturated_halves, signed_byte, signed_byte_of_half, signed_half,
+    MultiplyLane, as_bits, saturated_halves, signed_byte, signed_byte_of_half, signed_half,
     signed_halves, sum_of_words,
 };
 
@@ -59,7 +59,7 @@ pub fn vaddubs(a: [u8; 16], b: [u8; 16]) -> Marked
     let x = bytes(a);
     let y = bytes(b);
     let sum = x.saturating_add(y);
-    marked(of_bytes(sum), sum.simd_ne(x + y).to_bitmask())
+    with_marks(of_bytes(sum), sum.simd_ne(x + y).to_bitmask())
 }
 
 pub fn vadduhs(a: [u8; 16], b: [u8; 16]) -> Marked
@@ -68,7 +68,7 @@ pub fn vadduhs(a: [u8; 16], b: [u8; 16]) -> Marked
     let x = halves(a);
     let y = halves(b);
     let sum = x.saturating_add(y);
-    marked(of_halves(sum), sum.simd_ne(x + y).to_bitmask())
+    with_marks(of_halves(sum), sum.simd_ne(x + y).to_bitmask())
 }
 
 pub fn vadduws(a: [u8; 16], b: [u8; 16]) -> Marked
@@ -77,7 +77,7 @@ pub fn vadduws(a: [u8; 16], b: [u8; 16]) -> Marked
     let x = words(a);
     let y = words(b);
     let sum = x.saturating_add(y);
-    marked(of_words(sum), sum.simd_ne(x + y).to_bitmask())
+    with_marks(of_words(sum), sum.simd_ne(x + y).to_bitmask())
 }
 
 // A signed sum is out of range where it compares with x other than the sign of y says; it then moves to the end on the side of y.
@@ -92,7 +92,7 @@ pub fn vaddsbs(a: [u8; 16], b: [u8; 16]) -> Marked
     let minus = y.simd_ge(top);
     let out = (sum + top).simd_lt(x + top) ^ minus;
     let end = minus.select(top, u8x16::splat(127));
-    marked(of_bytes(out.select(end, sum)), out.to_bitmask())
+    with_marks(of_bytes(out.select(end, sum)), out.to_bitmask())
 }
 
 pub fn vaddshs(a: [u8; 16], b: [u8; 16]) -> Marked
@@ -105,7 +105,7 @@ pub fn vaddshs(a: [u8; 16], b: [u8; 16]) -> Marked
     let minus = y.simd_ge(top);
     let out = (sum + top).simd_lt(x + top) ^ minus;
     let end = minus.select(top, u16x8::splat(32767));
-    marked(of_halves(out.select(end, sum)), out.to_bitmask())
+    with_marks(of_halves(out.select(end, sum)), out.to_bitmask())
 }
 
 pub fn vaddsws(a: [u8; 16], b: [u8; 16]) -> Marked
@@ -153,7 +153,7 @@ pub fn vsububs(a: [u8; 16], b: [u8; 16]) -> Marked
     let x = bytes(a);
     let y = bytes(b);
     let difference = x.saturating_sub(y);
-    marked(of_bytes(difference), x.simd_lt(y).to_bitmask())
+    with_marks(of_bytes(difference), x.simd_lt(y).to_bitmask())
 }
 
 pub fn vsubuhs(a: [u8; 16], b: [u8; 16]) -> Marked
@@ -162,7 +162,7 @@ pub fn vsubuhs(a: [u8; 16], b: [u8; 16]) -> Marked
     let x = halves(a);
     let y = halves(b);
     let difference = x.saturating_sub(y);
-    marked(of_halves(difference), x.simd_lt(y).to_bitmask())
+    with_marks(of_halves(difference), x.simd_lt(y).to_bitmask())
 }
 
 pub fn vsubuws(a: [u8; 16], b: [u8; 16]) -> Marked
@@ -171,7 +171,7 @@ pub fn vsubuws(a: [u8; 16], b: [u8; 16]) -> Marked
     let x = words(a);
     let y = words(b);
     let difference = x.saturating_sub(y);
-    marked(of_words(difference), x.simd_lt(y).to_bitmask())
+    with_marks(of_words(difference), x.simd_lt(y).to_bitmask())
 }
 
 pub fn vsubsbs(a: [u8; 16], b: [u8; 16]) -> Marked
@@ -184,7 +184,7 @@ pub fn vsubsbs(a: [u8; 16], b: [u8; 16]) -> Marked
     let minus = y.simd_ge(top);
     let out = (x + top).simd_lt(difference + top) ^ minus;
     let end = minus.select(u8x16::splat(127), top);
-    marked(of_bytes(out.select(end, difference)), out.to_bitmask())
+    with_marks(of_bytes(out.select(end, difference)), out.to_bitmask())
 }
 
 pub fn vsubshs(a: [u8; 16], b: [u8; 16]) -> Marked
@@ -197,7 +197,7 @@ pub fn vsubshs(a: [u8; 16], b: [u8; 16]) -> Marked
     let minus = y.simd_ge(top);
     let out = (x + top).simd_lt(difference + top) ^ minus;
     let end = minus.select(u16x8::splat(32767), top);
-    marked(of_halves(out.select(end, difference)), out.to_bitmask())
+    with_marks(of_halves(out.select(end, difference)), out.to_bitmask())
 }
 
 pub fn vsubsws(a: [u8; 16], b: [u8; 16]) -> Marked
@@ -210,7 +210,7 @@ pub fn vsubsws(a: [u8; 16], b: [u8; 16]) -> Marked
     let minus = y.simd_ge(top);
     let out = (x + top).simd_lt(difference + top) ^ minus;
     let end = minus.select(u32x4::splat(2147483647), top);
-    marked(of_words(out.select(end, difference)), out.to_bitmask())
+    with_marks(of_words(out.select(end, difference)), out.to_bitmask())
 }
 
 // Maximum, minimum, average.
@@ -608,7 +608,7 @@ pub fn vsum4ubs(a: [u8; 16], b: [u8; 16]) -> Marked
         + ((x >> u32x4::splat(8)) & low)
         + (x & low);
     let sum = parts.saturating_add(y);
-    marked(of_words(sum), sum.simd_ne(parts + y).to_bitmask())
+    with_marks(of_words(sum), sum.simd_ne(parts + y).to_bitmask())
 }
 
 pub fn vsum4sbs(a: [u8; 16], b: [u8; 16]) -> Marked
@@ -825,7 +825,7 @@ pub fn vmsumuhs(a: [u8; 16], b: [u8; 16], c: [u8; 16]) -> Marked
     let both = p0 + p1;
     let sum = both + z;
     let out = both.simd_lt(p0) | sum.simd_lt(z);
-    marked(
+    with_marks(
         of_words(out.select(u32x4::splat(4294967295), sum)),
         out.to_bitmask(),
     )
@@ -856,7 +856,7 @@ pub fn vmsumshs(a: [u8; 16], b: [u8; 16], c: [u8; 16]) -> Marked
     let sum = z + q;
     let out = (sum + top).simd_lt(z + top) ^ minus;
     let end = minus.select(top, u32x4::splat(2147483647));
-    marked(of_words(out.select(end, sum)), out.to_bitmask())
+    with_marks(of_words(out.select(end, sum)), out.to_bitmask())
 }
 
 pub fn vsel(a: [u8; 16], b: [u8; 16], c: [u8; 16]) -> [u8; 16]

@@ -7,21 +7,9 @@ ghost use mir.Val.{of_z};
 ghost use Rattle.lanes.specs.Integer.{signed, sat_s};
 ghost use Rattle.lanes.specs.Order.{Bytes};
 ghost use Rattle.lanes.specs.Placed.{lanes_of, placed};
-ghost use Rattle.vector.specs.Parts.{with_marks};
 
-use lanes::{Marked, Size, halves, of_halves, of_words};
+use lanes::{Marked, Size, halves, of_halves, of_words, with_marks};
 use std::simd::prelude::*;
-
-// A vector, and the bits of a mask as its marks.
-#[inline(always)]
-pub fn marked(bytes: [u8; 16], mask: u64) -> Marked
-    ensures { result ≡ with_marks bytes mask }
-{
-    Marked {
-        bytes,
-        marks: (mask % 4294967296) as u32,
-    }
-}
 
 // The low byte of each half, and of each word, with its sign carried through the lane.
 #[inline(always)]
@@ -67,7 +55,7 @@ pub fn saturated_halves(z: i32x8) -> Marked
     let near = z.simd_clamp(i32x8::splat(-32768), i32x8::splat(32767));
     let out = z.simd_ne(near);
     let low = u16x8::from_le_bytes(near.cast::<i16>().to_le_bytes());
-    marked(of_halves(low), out.to_bitmask())
+    with_marks(of_halves(low), out.to_bitmask())
 }
 
 // The bits of v.
@@ -89,7 +77,7 @@ pub fn sum_of_words(x: u32x4, y: u32x4) -> Marked
     let minus = y.simd_ge(top);
     let out = (sum + top).simd_lt(x + top) ^ minus;
     let end = minus.select(top, u32x4::splat(2147483647));
-    marked(of_words(out.select(end, sum)), out.to_bitmask())
+    with_marks(of_words(out.select(end, sum)), out.to_bitmask())
 }
 
 // The multiply lanes: to products, formed by `*` and `+`, which wrap, c is added and wraps too; so the exact result is reduced to the lane.

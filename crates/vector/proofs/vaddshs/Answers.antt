@@ -5,4 +5,4 @@ use Rattle.vector.proofs.Sums.{add_sat_s}
 use Rattle.vector.proofs.vaddshs.Goals as goal
 
 pub returns : goal.returns
-returns c = rw (c.marked.ensures, c.of_halves.ensures, c.halves-x.ensures.lanes, c.halves-y.ensures.lanes) (marked_on_two (add_sat_s Half) c.halves-x.ensures c.halves-y.ensures)
+returns c = rw (c.with_marks.ensures, c.of_halves.ensures, c.halves-x.ensures.lanes, c.halves-y.ensures.lanes) (marked_on_two (add_sat_s Half) c.halves-x.ensures c.halves-y.ensures)

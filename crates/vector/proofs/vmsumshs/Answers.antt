@@ -14,4 +14,4 @@ returns c =
     let z = c.words-z.ensures in
     let a = x.0 ∙ ap (map (signed 65536)) (halves-of-words c.args.a x.1) in
     let b = y.0 ∙ ap (map (signed 65536)) (halves-of-words c.args.b y.1) in
-    rw (c.marked.ensures, c.of_words.ensures, c.as_bits-q.ensures, a, b, z.lanes) (marked-is MulSumHalvesSatS c.args.a c.args.b c.args.c x.1 y.1 z.bytes Word mul_sum mul_sum_halves_sat_s.agrees)
+    rw (c.with_marks.ensures, c.of_words.ensures, c.as_bits-q.ensures, a, b, z.lanes) (marked-is MulSumHalvesSatS c.args.a c.args.b c.args.c x.1 y.1 z.bytes Word mul_sum mul_sum_halves_sat_s.agrees)

@@ -5,4 +5,4 @@ use Rattle.vector.proofs.Sums.{sub_sat_s}
 use Rattle.vector.proofs.vsubsws.Goals as goal
 
 pub returns : goal.returns
-returns c = rw (c.marked.ensures, c.of_words.ensures, c.words-x.ensures.lanes, c.words-y.ensures.lanes) (marked_on_two (sub_sat_s Word) c.words-x.ensures c.words-y.ensures)
+returns c = rw (c.with_marks.ensures, c.of_words.ensures, c.words-x.ensures.lanes, c.words-y.ensures.lanes) (marked_on_two (sub_sat_s Word) c.words-x.ensures c.words-y.ensures)

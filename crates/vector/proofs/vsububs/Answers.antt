@@ -5,4 +5,4 @@ use Rattle.vector.proofs.Sums.{sub_sat_u}
 use Rattle.vector.proofs.vsububs.Goals as goal
 
 pub returns : goal.returns
-returns c = rw (c.marked.ensures, c.of_bytes.ensures, c.bytes-x.ensures.lanes, c.bytes-y.ensures.lanes) (marked_on_two (sub_sat_u Byte) c.bytes-x.ensures c.bytes-y.ensures)
+returns c = rw (c.with_marks.ensures, c.of_bytes.ensures, c.bytes-x.ensures.lanes, c.bytes-y.ensures.lanes) (marked_on_two (sub_sat_u Byte) c.bytes-x.ensures c.bytes-y.ensures)

@@ -5,4 +5,4 @@ use Rattle.vector.proofs.Sums.{sub_sat_u}
 use Rattle.vector.proofs.vsubuhs.Goals as goal
 
 pub returns : goal.returns
-returns c = rw (c.marked.ensures, c.of_halves.ensures, c.halves-x.ensures.lanes, c.halves-y.ensures.lanes) (marked_on_two (sub_sat_u Half) c.halves-x.ensures c.halves-y.ensures)
+returns c = rw (c.with_marks.ensures, c.of_halves.ensures, c.halves-x.ensures.lanes, c.halves-y.ensures.lanes) (marked_on_two (sub_sat_u Half) c.halves-x.ensures c.halves-y.ensures)

@@ -6,4 +6,4 @@ pub overflow_cast-low : goal.overflow_cast-low
 overflow_cast-low c = narrow_fits c.args.z c.requires.0 c.requires.1
 
 pub returns : goal.returns
-returns c = rw (c.marked.ensures, c.of_halves.ensures) (saturates c.args.z c.requires.0 c.requires.1)
+returns c = rw (c.with_marks.ensures, c.of_halves.ensures) (saturates c.args.z c.requires.0 c.requires.1)
