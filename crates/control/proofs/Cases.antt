@@ -5,7 +5,7 @@ use borrow.Author.Tests.{lt-leb}
 use Rattle.decode.specs.declared.Decoded.{Decoded}
 use Rattle.control.specs.declared.answers.Answer.TheVariants.{NoInstruction, Reserved}
 use Rattle.encodings.specs.declared.ops.Op.{Op}
-use Rattle.std.specs.Prelude.{Some, None, Ok, Err}
+use Rattle.std.specs.Prelude.{Some, None, Err}
 use Rattle.control.specs.Addresses.{address_of, sum_of, item_of}
 use Rattle.control.specs.Kinds.{kind_of}
 use Rattle.control.specs.Orders.{order_in, order_of}

@@ -1,9 +1,6 @@
 -- What an instruction leaves of the 32 vectors: register d holds its result, the others stay, and its marks are returned. Assumes nothing.
 use Rattle.std.specs.Prelude.{ℕ, ◌*◌, List, ◌≡◌}
 use Rattle.lanes.specs.declared.Marked.{Marked}
-use Rattle.lanes.specs.declared.Op.{Op}
-use Rattle.lanes.specs.declared.Size.{Size}
-use Rattle.lanes.specs.Operations.{applied}
 use Rattle.lines.specs.Lines.{sixteen, put}
 
 -- register n of the vectors v
