@@ -30,7 +30,7 @@ use Rattle.compute.specs.Families.{by_sign, quarter_sums, packs_saturated}
 use Rattle.compute.specs.Computed.{computed}
 use Rattle.control.specs.declared.answers.Answer.{Answer}
 use Rattle.control.specs.declared.answers.Answer.TheVariants.{NoInstruction, Reserved}
-use Rattle.std.specs.Prelude.{Option, Some, None, Result, Ok, Err, is_err}
+use Rattle.std.specs.Prelude.{Option, Some, None, Result, Err, is_err}
 use Rattle.std.specs.Option.{option_map_or}
 use Rattle.control.specs.declared.kinds.Kind.{Kind}
 use Rattle.control.specs.declared.kinds.Kind.TheVariants.{Vector, GetStatus, PutStatus, LeftPattern, RightPattern, GetElement, GetLine, PutElement, PutLine, AddScalar}

@@ -1,8 +1,6 @@
 -- ONE OUTCOME of the decoder, the parts of the machine, the run and the printed lines: two results that a contract allows are equal.
 -- Assumes nothing.
-use Prim.Native.Nat.{ℕ}
 use mathlib.Core.Path.{◌≡◌, sym, ap, ◌∙◌}
-use mathlib.Core.Bool.{Bool}
 use Rattle.effects.specs.Effects.{Held}
 use Rattle.machine.specs.declared.Machine.{Machine}
 use Rattle.machine.specs.declared.Ran.{Ran}
