@@ -3,71 +3,70 @@
 // and some words with all other bits set.
 #![tactic(auto)]
 
-ghost use Rattle.std.specs.Prelude.{◌<◌};
-
 use encodings::ops::{Op, Sign, Width};
-use files::say;
+use std::fmt;
 use std::io::Read;
 
-// The place of the operation in the list of `mnemonic`.
-fn family(op: Op) -> usize {
+// The name's letters: ? stands for the sign, * for the width, ! for the sign of a pack's result; lvxl and stvxl have the operation
+// and the name of lvx and stvx.
+fn pattern(op: Op) -> &'static str {
     match op {
-        Op::Unknown => 0,
-        Op::AddMod(_) => 1,
-        Op::AddCarry => 2,
-        Op::AddSat(_, _) => 3,
-        Op::SubMod(_) => 4,
-        Op::SubCarry => 5,
-        Op::SubSat(_, _) => 6,
-        Op::Max(_, _) => 7,
-        Op::Min(_, _) => 8,
-        Op::Average(_, _) => 9,
-        Op::Rotate(_) => 10,
-        Op::ShiftLeft(_) => 11,
-        Op::ShiftRight(_) => 12,
-        Op::ShiftAlgebraic(_) => 13,
-        Op::ShiftWholeLeft => 14,
-        Op::ShiftWholeRight => 15,
-        Op::ShiftBytesLeft => 16,
-        Op::ShiftBytesRight => 17,
-        Op::And => 18,
-        Op::AndNot => 19,
-        Op::Or => 20,
-        Op::Xor => 21,
-        Op::Nor => 22,
-        Op::FromStatus => 23,
-        Op::ToStatus => 24,
-        Op::MulOdd(_, _) => 25,
-        Op::MulEven(_, _) => 26,
-        Op::SumQuarter(_, _) => 27,
-        Op::SumHalf => 28,
-        Op::SumAll => 29,
-        Op::MergeHigh(_) => 30,
-        Op::MergeLow(_) => 31,
-        Op::Splat(_) => 32,
-        Op::SplatImmediate(_) => 33,
-        Op::PackMod(_) => 34,
-        Op::PackSat(_, _, _) => 35,
-        Op::UnpackHigh(_) => 36,
-        Op::UnpackLow(_) => 37,
-        Op::CompareEqual(_) => 38,
-        Op::CompareGreater(_, _) => 39,
-        Op::MulHighAdd => 40,
-        Op::MulHighRoundAdd => 41,
-        Op::MulLowAdd => 42,
-        Op::MulSum(_, _) => 43,
-        Op::MulSumMixed => 44,
-        Op::MulSumSat(_) => 45,
-        Op::Select => 46,
-        Op::Permute => 47,
-        Op::ShiftPair => 48,
-        Op::LoadShiftLeft => 49,
-        Op::LoadShiftRight => 50,
-        Op::LoadElement(_) => 51,
-        Op::LoadLine => 52,
-        Op::StoreElement(_) => 53,
-        Op::StoreLine => 54,
-        Op::AddImmediate => 55,
+        Op::Unknown => "-",
+        Op::AddMod(_) => "vaddu*m",
+        Op::AddCarry => "vaddcuw",
+        Op::AddSat(_, _) => "vadd?*s",
+        Op::SubMod(_) => "vsubu*m",
+        Op::SubCarry => "vsubcuw",
+        Op::SubSat(_, _) => "vsub?*s",
+        Op::Max(_, _) => "vmax?*",
+        Op::Min(_, _) => "vmin?*",
+        Op::Average(_, _) => "vavg?*",
+        Op::Rotate(_) => "vrl*",
+        Op::ShiftLeft(_) => "vsl*",
+        Op::ShiftRight(_) => "vsr*",
+        Op::ShiftAlgebraic(_) => "vsra*",
+        Op::ShiftWholeLeft => "vsl",
+        Op::ShiftWholeRight => "vsr",
+        Op::ShiftBytesLeft => "vslo",
+        Op::ShiftBytesRight => "vsro",
+        Op::And => "vand",
+        Op::AndNot => "vandc",
+        Op::Or => "vor",
+        Op::Xor => "vxor",
+        Op::Nor => "vnor",
+        Op::FromStatus => "mfvscr",
+        Op::ToStatus => "mtvscr",
+        Op::MulOdd(_, _) => "vmulo?*",
+        Op::MulEven(_, _) => "vmule?*",
+        Op::SumQuarter(_, _) => "vsum4?*s",
+        Op::SumHalf => "vsum2sws",
+        Op::SumAll => "vsumsws",
+        Op::MergeHigh(_) => "vmrgh*",
+        Op::MergeLow(_) => "vmrgl*",
+        Op::Splat(_) => "vsplt*",
+        Op::SplatImmediate(_) => "vspltis*",
+        Op::PackMod(_) => "vpku*um",
+        Op::PackSat(_, _, _) => "vpk?*!s",
+        Op::UnpackHigh(_) => "vupkhs*",
+        Op::UnpackLow(_) => "vupkls*",
+        Op::CompareEqual(_) => "vcmpequ*",
+        Op::CompareGreater(_, _) => "vcmpgt?*",
+        Op::MulHighAdd => "vmhaddshs",
+        Op::MulHighRoundAdd => "vmhraddshs",
+        Op::MulLowAdd => "vmladduhm",
+        Op::MulSum(_, _) => "vmsum?*m",
+        Op::MulSumMixed => "vmsummbm",
+        Op::MulSumSat(_) => "vmsum?hs",
+        Op::Select => "vsel",
+        Op::Permute => "vperm",
+        Op::ShiftPair => "vsldoi",
+        Op::LoadShiftLeft => "lvsl",
+        Op::LoadShiftRight => "lvsr",
+        Op::LoadElement(_) => "lve*x",
+        Op::LoadLine => "lvx",
+        Op::StoreElement(_) => "stve*x",
+        Op::StoreLine => "stvx",
+        Op::AddImmediate => "addi",
     }
 }
 
@@ -130,145 +129,80 @@ fn result_sign(op: Op) -> Sign {
     }
 }
 
-fn put_width(rt: &impl Print, w: Width) {
+fn width_letter(w: Width) -> char {
     match w {
-        Width::Byte => say(rt, b"b"),
-        Width::Half => say(rt, b"h"),
-        Width::Word => say(rt, b"w"),
+        Width::Byte => 'b',
+        Width::Half => 'h',
+        Width::Word => 'w',
     }
 }
 
-fn put_sign(rt: &impl Print, s: Sign) {
+fn sign_letter(s: Sign) -> char {
     match s {
-        Sign::Unsigned => say(rt, b"u"),
-        Sign::Signed => say(rt, b"s"),
+        Sign::Unsigned => 'u',
+        Sign::Signed => 's',
     }
 }
 
-// A letter of a name: ? stands for the sign, * for the width, ! for the sign of a pack's result.
-fn letter(rt: &impl Print, c: u8, op: Op) {
-    if c == b'?' {
-        put_sign(rt, sign(op));
-    } else if c == b'*' {
-        put_width(rt, width(op));
-    } else if c == b'!' {
-        put_sign(rt, result_sign(op));
-    } else if c != b' ' {
-        say(rt, &[c]);
-    }
-}
+// An operation by its mnemonic.
+#[derive(Clone, Copy)]
+struct Mnemonic(Op);
 
-// The name in a cell of ten letters.
-fn spell(rt: &impl Print, cells: &[u8], cell: usize, op: Op) {
-    if cell < 8 {
-        for i in 0..10 {
-            let at = cell * 10 + i;
-            if at < cells.len() {
-                letter(rt, cells[at], op);
-            }
+impl fmt::Display for Mnemonic {
+    fn fmt<W: fmt::Write>(&self, f: &mut fmt::Formatter<W>) -> fmt::Result {
+        let op = self.0;
+        for c in pattern(op).chars() {
+            let letter = match c {
+                '?' => sign_letter(sign(op)),
+                '*' => width_letter(width(op)),
+                '!' => sign_letter(result_sign(op)),
+                other => other,
+            };
+            write!(f, "{letter}")?;
         }
+        Ok(())
     }
 }
 
-// The mnemonic; lvxl and stvxl have the operation and the name of lvx and stvx.
-fn mnemonic(rt: &impl Print, op: Op) {
-    let f = family(op);
-    let row = f / 8;
-    let cell = f % 8;
-    match row {
-        0 => spell(
-            rt,
-            b"-         vaddu*m   vaddcuw   vadd?*s   vsubu*m   vsubcuw   vsub?*s   vmax?*    ",
-            cell,
-            op,
-        ),
-        1 => spell(
-            rt,
-            b"vmin?*    vavg?*    vrl*      vsl*      vsr*      vsra*     vsl       vsr       ",
-            cell,
-            op,
-        ),
-        2 => spell(
-            rt,
-            b"vslo      vsro      vand      vandc     vor       vxor      vnor      mfvscr    ",
-            cell,
-            op,
-        ),
-        3 => spell(
-            rt,
-            b"mtvscr    vmulo?*   vmule?*   vsum4?*s  vsum2sws  vsumsws   vmrgh*    vmrgl*    ",
-            cell,
-            op,
-        ),
-        4 => spell(
-            rt,
-            b"vsplt*    vspltis*  vpku*um   vpk?*!s   vupkhs*   vupkls*   vcmpequ*  vcmpgt?*  ",
-            cell,
-            op,
-        ),
-        5 => spell(
-            rt,
-            b"vmhaddshs vmhraddshsvmladduhm vmsum?*m  vmsummbm  vmsum?hs  vsel      vperm     ",
-            cell,
-            op,
-        ),
-        _ => spell(
-            rt,
-            b"vsldoi    lvsl      lvsr      lve*x     lvx       stve*x    stvx      addi      ",
-            cell,
-            op,
-        ),
-    }
-}
+// Words that are said where they are so.
+#[derive(Clone, Copy)]
+struct Flag(&'static str, bool);
 
-fn number(rt: &impl Print, name: &[u8], n: u64) {
-    say(rt, name);
-    let _ = rt.print(n);
-}
-
-fn flag(rt: &impl Print, name: &[u8], on: bool) {
-    if on {
-        say(rt, name);
+impl fmt::Display for Flag {
+    fn fmt<W: fmt::Write>(&self, f: &mut fmt::Formatter<W>) -> fmt::Result {
+        if self.1 { f.write_str(self.0) } else { Ok(()) }
     }
 }
 
 fn traits(rt: &impl Print, op: Op) {
-    flag(rt, b" reads a", decode::traits::reads_a(op));
-    flag(rt, b" reads b", decode::traits::reads_b(op));
-    flag(rt, b" reads c", decode::traits::reads_c(op));
-    flag(rt, b" reads d", decode::traits::reads_d(op));
-    flag(rt, b" writes d", decode::traits::writes_d(op));
-    flag(rt, b" clips", decode::traits::can_clip(op));
-    flag(rt, b" bound", decode::traits::position_bound(op));
+    let flags = [
+        Flag(" reads a", decode::traits::reads_a(op)),
+        Flag(" reads b", decode::traits::reads_b(op)),
+        Flag(" reads c", decode::traits::reads_c(op)),
+        Flag(" reads d", decode::traits::reads_d(op)),
+        Flag(" writes d", decode::traits::writes_d(op)),
+        Flag(" clips", decode::traits::can_clip(op)),
+        Flag(" bound", decode::traits::position_bound(op)),
+    ];
+    for flag in flags {
+        let _ = rt.print(flag);
+    }
 }
 
 fn line(rt: &impl Print, word: u32) {
     let got = decode::decode(word);
-    let op = got.op;
-    let _ = print!(rt; "{word:08x}");
-    say(rt, b" ");
-    mnemonic(rt, op);
-    number(rt, b" d", got.d as u64);
-    number(rt, b" a", got.a as u64);
-    number(rt, b" b", got.b as u64);
-    number(rt, b" c", got.c as u64);
-    number(rt, b" count", got.count as u64);
-    number(rt, b" imm", got.imm as u64);
-    flag(rt, b" rc", got.rc);
-    flag(rt, b" stray", got.stray);
-    traits(rt, op);
+    let _ = print!(rt;
+        "{word:08x} {} d{} a{} b{} c{}",
+        Mnemonic(got.op),
+        got.d,
+        got.a,
+        got.b,
+        got.c
+    );
+    let _ = print!(rt; " count{} imm{}", got.count, got.imm);
+    let _ = print!(rt; "{}{}", Flag(" rc", got.rc), Flag(" stray", got.stray));
+    traits(rt, got.op);
     let _ = println!(rt; " cleared {:08x}", decode::cleared(word));
-}
-
-fn wide(b: u8) -> u32
-    ensures { result < 256 }
-{
-    b as u32
-}
-
-// The word of four bytes, the first leftmost.
-fn joined(b: &[u8; 4]) -> u32 {
-    ((wide(b[0]) * 256 + wide(b[1])) * 256 + wide(b[2])) * 256 + wide(b[3])
 }
 
 fn main(rt: HostRuntime) {
@@ -278,6 +212,6 @@ fn main(rt: HostRuntime) {
         if input.read_exact(&mut bytes).is_err() {
             return;
         }
-        line(&rt, joined(&bytes));
+        line(&rt, u32::from_be_bytes(bytes));
     }
 }
