@@ -1,9 +1,8 @@
--- ONE OUTCOME of the lanes, the decoder, the parts of the machine, the run and the printed lines: two results that a contract allows are equal.
+-- ONE OUTCOME of the lanes, the decoder, the parts of the machine and the run: two results that a contract allows are equal.
 -- Assumes nothing.
 use Prim.Native.Nat.{ℕ}
 use mathlib.Core.Path.{◌≡◌, sym, ap, ◌∙◌}
 use mathlib.Core.Bool.{Bool}
-use Rattle.reading.specs.declared.Filled.{Filled}
 use Rattle.effects.specs.Effects.{Held}
 use Rattle.machine.specs.declared.Machine.{Machine}
 use Rattle.machine.specs.declared.Ran.{Ran}
@@ -164,12 +163,6 @@ use Rattle.machine.proofs.Machine.run.Kinds as machine-run-kinds
 use Rattle.machine.proofs.Machine.run.Reads as machine-run
 use Rattle.machine.proofs.Machine.step.Kinds as machine-step-kinds
 use Rattle.machine.proofs.Machine.step.Reads as machine-step
-use Rattle.texts.proofs.report_line.Kinds as texts-report-line-kinds
-use Rattle.texts.proofs.report_line.Reads as texts-report-line
-use Rattle.texts.proofs.vector_line.Kinds as texts-vector-line-kinds
-use Rattle.texts.proofs.vector_line.Reads as texts-vector-line
-use Rattle.texts.proofs.general_line.Kinds as texts-general-line-kinds
-use Rattle.texts.proofs.general_line.Reads as texts-general-line
 use Rattle.control.proofs.control.Kinds as control-control-kinds
 use Rattle.control.proofs.control.Reads as control-control
 use Rattle.flags.proofs.marked.Kinds as flags-marked-kinds
@@ -193,12 +186,6 @@ use Rattle.halves.proofs.mul_high_add.Reads as halves-mul-high-add
 use Rattle.halves.proofs.mul_high_round_add.Kinds as halves-mul-high-round-add-kinds
 use Rattle.halves.proofs.mul_high_round_add.Reads as halves-mul-high-round-add
 use Rattle.laws.proofs.Outcome.{one_outcome}
-use Rattle.texts.proofs.add.Kinds as texts-add-kinds
-use Rattle.texts.proofs.add.Reads as texts-add
-use Rattle.texts.proofs.add_hex.Kinds as texts-add-hex-kinds
-use Rattle.texts.proofs.add_hex.Reads as texts-add-hex
-use Rattle.texts.proofs.add_words.Kinds as texts-add-words-kinds
-use Rattle.texts.proofs.add_words.Reads as texts-add-words
 use Rattle.reading.proofs.words.Kinds as reading-words-kinds
 use Rattle.reading.proofs.words.Reads as reading-words
 use Rattle.reading.proofs.numbers.read.Kinds as reading-read-kinds
@@ -214,12 +201,6 @@ ran_of r m = record { report = r; m = m }
 
 same_ran : (x y : Ran) → x.report ≡ y.report → x.m ≡ y.m → x ≡ y
 same_ran x y e f = ap (λ (r : Report). ran_of r x.m) e ∙ ap (λ (m : Machine). ran_of y.report m) f
-
-abbrev filled_of : Bool → ℕ → Filled
-filled_of good count = record { good = good; count = count }
-
-same_filled : (x y : Filled) → x.good ≡ y.good → x.count ≡ y.count → x ≡ y
-same_filled x y e f = ap (λ (g : Bool). filled_of g x.count) e ∙ ap (λ (n : ℕ). filled_of y.good n) f
 
 pub one_decode-operation : OneResult 0 decode-operation-kinds.ps decode-operation-kinds.r decode-operation.Post
 one_decode-operation κs a x y s t p q = p ∙ sym q
@@ -467,15 +448,6 @@ one_machine-run κs a x y s t p q = same_ran x y (one_outcome p q).0 (one_outcom
 pub one_machine-step : OneResult 2 machine-step-kinds.ps machine-step-kinds.r machine-step.Post
 one_machine-step κs a x y s t p q = same_ran x y (one_outcome p q).0 (one_outcome p q).1
 
-pub one_texts-report_line : OneResult 1 texts-report-line-kinds.ps texts-report-line-kinds.r texts-report-line.Post
-one_texts-report_line κs a x y s t p q = p.0.end ∙ sym q.0.end
-
-pub one_texts-vector_line : OneResult 1 texts-vector-line-kinds.ps texts-vector-line-kinds.r texts-vector-line.Post
-one_texts-vector_line κs a x y s t p q = p.0.end ∙ sym q.0.end
-
-pub one_texts-general_line : OneResult 1 texts-general-line-kinds.ps texts-general-line-kinds.r texts-general-line.Post
-one_texts-general_line κs a x y s t p q = p.0.end ∙ sym q.0.end
-
 pub one_control-control : OneResult 1 control-control-kinds.ps control-control-kinds.r control-control.Post
 one_control-control κs a x y s t p q = p.order ∙ sym q.order
 
@@ -497,17 +469,8 @@ one_flags-from_status κs a x y s t p q = p ∙ sym q
 pub one_effects-effect : OneResult 2 effects-effect-kinds.ps effects-effect-kinds.r effects-effect.Post
 one_effects-effect κs a x y s t p q = ap (λ (h : Held). h.flags) (p ∙ sym q)
 
-pub one_texts-add : OneResult 2 texts-add-kinds.ps texts-add-kinds.r texts-add.Post
-one_texts-add κs a x y s t p q = p.0.end ∙ sym q.0.end
-
-pub one_texts-add_hex : OneResult 2 texts-add-hex-kinds.ps texts-add-hex-kinds.r texts-add-hex.Post
-one_texts-add_hex κs a x y s t p q = p.end ∙ sym q.end
-
-pub one_texts-add_words : OneResult 2 texts-add-words-kinds.ps texts-add-words-kinds.r texts-add-words.Post
-one_texts-add_words κs a x y s t p q = p.end ∙ sym q.end
-
 pub one_reading-words : OneResult 2 reading-words-kinds.ps reading-words-kinds.r reading-words.Post
-one_reading-words κs a x y s t p q = same_filled x y (p.0.good ∙ sym q.0.good) (p.0.count ∙ sym q.0.count)
+one_reading-words κs a x y s t p q = p.0.count ∙ sym q.0.count
 
 pub one_reading-read : OneResult 1 reading-read-kinds.ps reading-read-kinds.r reading-read.Post
 one_reading-read κs a x y s t p q = p ∙ sym q
