@@ -3,12 +3,9 @@
 // and some words with all other bits set.
 #![tactic(auto)]
 
-ghost use Rattle.std.specs.Prelude.{◌<◌};
-
 use encodings::ops::{Op, Sign};
-use files::say;
 use lanes::Size;
-use std::io;
+use std::fmt;
 use std::io::Read;
 
 fn size(w: Size) -> &'static str {
@@ -27,120 +24,110 @@ fn sign(s: Sign) -> &'static str {
 }
 
 // The mnemonic; lvxl and stvxl have the operation and the name of lvx and stvx.
-fn mnemonic(rt: &impl Print, op: Op) -> io::Result<()> {
-    match op {
-        Op::AddMod(w) => print!(rt; "vaddu{}m", size(w)),
-        Op::AddCarry => print!(rt; "vaddcuw"),
-        Op::AddSat(w, s) => print!(rt; "vadd{}{}s", sign(s), size(w)),
-        Op::SubMod(w) => print!(rt; "vsubu{}m", size(w)),
-        Op::SubCarry => print!(rt; "vsubcuw"),
-        Op::SubSat(w, s) => print!(rt; "vsub{}{}s", sign(s), size(w)),
-        Op::Max(w, s) => print!(rt; "vmax{}{}", sign(s), size(w)),
-        Op::Min(w, s) => print!(rt; "vmin{}{}", sign(s), size(w)),
-        Op::Average(w, s) => print!(rt; "vavg{}{}", sign(s), size(w)),
-        Op::Rotate(w) => print!(rt; "vrl{}", size(w)),
-        Op::ShiftLeft(w) => print!(rt; "vsl{}", size(w)),
-        Op::ShiftRight(w) => print!(rt; "vsr{}", size(w)),
-        Op::ShiftAlgebraic(w) => print!(rt; "vsra{}", size(w)),
-        Op::ShiftWholeLeft => print!(rt; "vsl"),
-        Op::ShiftWholeRight => print!(rt; "vsr"),
-        Op::ShiftBytesLeft => print!(rt; "vslo"),
-        Op::ShiftBytesRight => print!(rt; "vsro"),
-        Op::And => print!(rt; "vand"),
-        Op::AndNot => print!(rt; "vandc"),
-        Op::Or => print!(rt; "vor"),
-        Op::Xor => print!(rt; "vxor"),
-        Op::Nor => print!(rt; "vnor"),
-        Op::FromStatus => print!(rt; "mfvscr"),
-        Op::ToStatus => print!(rt; "mtvscr"),
-        Op::MulOdd(w, s) => print!(rt; "vmulo{}{}", sign(s), size(w)),
-        Op::MulEven(w, s) => print!(rt; "vmule{}{}", sign(s), size(w)),
-        Op::SumQuarter(w, s) => print!(rt; "vsum4{}{}s", sign(s), size(w)),
-        Op::SumHalf => print!(rt; "vsum2sws"),
-        Op::SumAll => print!(rt; "vsumsws"),
-        Op::MergeHigh(w) => print!(rt; "vmrgh{}", size(w)),
-        Op::MergeLow(w) => print!(rt; "vmrgl{}", size(w)),
-        Op::Splat(w) => print!(rt; "vsplt{}", size(w)),
-        Op::SplatImmediate(w) => print!(rt; "vspltis{}", size(w)),
-        Op::PackMod(w) => print!(rt; "vpku{}um", size(w)),
-        Op::PackSat(w, s, r) => print!(rt; "vpk{}{}{}s", sign(s), size(w), sign(r)),
-        Op::UnpackHigh(w) => print!(rt; "vupkhs{}", size(w)),
-        Op::UnpackLow(w) => print!(rt; "vupkls{}", size(w)),
-        Op::CompareEqual(w) => print!(rt; "vcmpequ{}", size(w)),
-        Op::CompareGreater(w, s) => print!(rt; "vcmpgt{}{}", sign(s), size(w)),
-        Op::MulHighAdd => print!(rt; "vmhaddshs"),
-        Op::MulHighRoundAdd => print!(rt; "vmhraddshs"),
-        Op::MulLowAdd => print!(rt; "vmladduhm"),
-        Op::MulSum(w, s) => print!(rt; "vmsum{}{}m", sign(s), size(w)),
-        Op::MulSumMixed => print!(rt; "vmsummbm"),
-        Op::MulSumSat(s) => print!(rt; "vmsum{}hs", sign(s)),
-        Op::Select => print!(rt; "vsel"),
-        Op::Permute => print!(rt; "vperm"),
-        Op::ShiftPair => print!(rt; "vsldoi"),
-        Op::LoadShiftLeft => print!(rt; "lvsl"),
-        Op::LoadShiftRight => print!(rt; "lvsr"),
-        Op::LoadElement(w) => print!(rt; "lve{}x", size(w)),
-        Op::LoadLine => print!(rt; "lvx"),
-        Op::StoreElement(w) => print!(rt; "stve{}x", size(w)),
-        Op::StoreLine => print!(rt; "stvx"),
-        Op::AddImmediate => print!(rt; "addi"),
+#[derive(Clone, Copy)]
+struct Mnemonic(Op);
+
+impl fmt::Display for Mnemonic {
+    fn fmt<W: fmt::Write>(&self, f: &mut fmt::Formatter<W>) -> fmt::Result {
+        match self.0 {
+            Op::AddMod(w) => write!(f, "vaddu{}m", size(w)),
+            Op::AddCarry => f.write_str("vaddcuw"),
+            Op::AddSat(w, s) => write!(f, "vadd{}{}s", sign(s), size(w)),
+            Op::SubMod(w) => write!(f, "vsubu{}m", size(w)),
+            Op::SubCarry => f.write_str("vsubcuw"),
+            Op::SubSat(w, s) => write!(f, "vsub{}{}s", sign(s), size(w)),
+            Op::Max(w, s) => write!(f, "vmax{}{}", sign(s), size(w)),
+            Op::Min(w, s) => write!(f, "vmin{}{}", sign(s), size(w)),
+            Op::Average(w, s) => write!(f, "vavg{}{}", sign(s), size(w)),
+            Op::Rotate(w) => write!(f, "vrl{}", size(w)),
+            Op::ShiftLeft(w) => write!(f, "vsl{}", size(w)),
+            Op::ShiftRight(w) => write!(f, "vsr{}", size(w)),
+            Op::ShiftAlgebraic(w) => write!(f, "vsra{}", size(w)),
+            Op::ShiftWholeLeft => f.write_str("vsl"),
+            Op::ShiftWholeRight => f.write_str("vsr"),
+            Op::ShiftBytesLeft => f.write_str("vslo"),
+            Op::ShiftBytesRight => f.write_str("vsro"),
+            Op::And => f.write_str("vand"),
+            Op::AndNot => f.write_str("vandc"),
+            Op::Or => f.write_str("vor"),
+            Op::Xor => f.write_str("vxor"),
+            Op::Nor => f.write_str("vnor"),
+            Op::FromStatus => f.write_str("mfvscr"),
+            Op::ToStatus => f.write_str("mtvscr"),
+            Op::MulOdd(w, s) => write!(f, "vmulo{}{}", sign(s), size(w)),
+            Op::MulEven(w, s) => write!(f, "vmule{}{}", sign(s), size(w)),
+            Op::SumQuarter(w, s) => write!(f, "vsum4{}{}s", sign(s), size(w)),
+            Op::SumHalf => f.write_str("vsum2sws"),
+            Op::SumAll => f.write_str("vsumsws"),
+            Op::MergeHigh(w) => write!(f, "vmrgh{}", size(w)),
+            Op::MergeLow(w) => write!(f, "vmrgl{}", size(w)),
+            Op::Splat(w) => write!(f, "vsplt{}", size(w)),
+            Op::SplatImmediate(w) => write!(f, "vspltis{}", size(w)),
+            Op::PackMod(w) => write!(f, "vpku{}um", size(w)),
+            Op::PackSat(w, s, r) => write!(f, "vpk{}{}{}s", sign(s), size(w), sign(r)),
+            Op::UnpackHigh(w) => write!(f, "vupkhs{}", size(w)),
+            Op::UnpackLow(w) => write!(f, "vupkls{}", size(w)),
+            Op::CompareEqual(w) => write!(f, "vcmpequ{}", size(w)),
+            Op::CompareGreater(w, s) => write!(f, "vcmpgt{}{}", sign(s), size(w)),
+            Op::MulHighAdd => f.write_str("vmhaddshs"),
+            Op::MulHighRoundAdd => f.write_str("vmhraddshs"),
+            Op::MulLowAdd => f.write_str("vmladduhm"),
+            Op::MulSum(w, s) => write!(f, "vmsum{}{}m", sign(s), size(w)),
+            Op::MulSumMixed => f.write_str("vmsummbm"),
+            Op::MulSumSat(s) => write!(f, "vmsum{}hs", sign(s)),
+            Op::Select => f.write_str("vsel"),
+            Op::Permute => f.write_str("vperm"),
+            Op::ShiftPair => f.write_str("vsldoi"),
+            Op::LoadShiftLeft => f.write_str("lvsl"),
+            Op::LoadShiftRight => f.write_str("lvsr"),
+            Op::LoadElement(w) => write!(f, "lve{}x", size(w)),
+            Op::LoadLine => f.write_str("lvx"),
+            Op::StoreElement(w) => write!(f, "stve{}x", size(w)),
+            Op::StoreLine => f.write_str("stvx"),
+            Op::AddImmediate => f.write_str("addi"),
+        }
     }
 }
 
-fn number(rt: &impl Print, name: &[u8], n: u64) {
-    say(rt, name);
-    let _ = rt.print(n);
-}
+// Words that are said where they are so.
+#[derive(Clone, Copy)]
+struct Flag(&'static str, bool);
 
-fn flag(rt: &impl Print, name: &[u8], on: bool) {
-    if on {
-        say(rt, name);
+impl fmt::Display for Flag {
+    fn fmt<W: fmt::Write>(&self, f: &mut fmt::Formatter<W>) -> fmt::Result {
+        if self.1 { f.write_str(self.0) } else { Ok(()) }
     }
 }
 
 fn traits(rt: &impl Print, op: Op) {
-    flag(rt, b" reads a", decode::traits::reads_a(op));
-    flag(rt, b" reads b", decode::traits::reads_b(op));
-    flag(rt, b" reads c", decode::traits::reads_c(op));
-    flag(rt, b" reads d", decode::traits::reads_d(op));
-    flag(rt, b" writes d", decode::traits::writes_d(op));
-    flag(rt, b" clips", decode::traits::can_clip(op));
-    flag(rt, b" bound", decode::traits::position_bound(op));
+    let flags = [
+        Flag(" reads a", decode::traits::reads_a(op)),
+        Flag(" reads b", decode::traits::reads_b(op)),
+        Flag(" reads c", decode::traits::reads_c(op)),
+        Flag(" reads d", decode::traits::reads_d(op)),
+        Flag(" writes d", decode::traits::writes_d(op)),
+        Flag(" clips", decode::traits::can_clip(op)),
+        Flag(" bound", decode::traits::position_bound(op)),
+    ];
+    for flag in flags {
+        let _ = rt.print(flag);
+    }
 }
 
 fn line(rt: &impl Print, word: u32) {
     let got = decode::decode(word);
-    let _ = print!(rt; "{word:08x}");
-    say(rt, b" ");
-    match got.op {
-        Some(op) => {
-            let _ = mnemonic(rt, op);
-        }
-        None => say(rt, b"-"),
-    }
-    number(rt, b" d", got.d as u64);
-    number(rt, b" a", got.a as u64);
-    number(rt, b" b", got.b as u64);
-    number(rt, b" c", got.c as u64);
-    number(rt, b" count", got.count as u64);
-    number(rt, b" imm", got.imm as u64);
-    flag(rt, b" rc", got.rc);
-    flag(rt, b" stray", got.stray);
+    let _ = print!(rt; "{word:08x} ");
+    let _ = match got.op {
+        Some(op) => rt.print(Mnemonic(op)),
+        None => rt.print("-"),
+    };
+    let _ = print!(rt; " d{} a{} b{} c{}", got.d, got.a, got.b, got.c);
+    let _ = print!(rt; " count{} imm{}", got.count, got.imm);
+    let _ = print!(rt; "{}{}", Flag(" rc", got.rc), Flag(" stray", got.stray));
     if let Some(op) = got.op {
         traits(rt, op);
     }
     let _ = println!(rt; " cleared {:08x}", decode::cleared(word));
-}
-
-fn wide(b: u8) -> u32
-    ensures { result < 256 }
-{
-    b as u32
-}
-
-// The word of four bytes, the first leftmost.
-fn joined(b: &[u8; 4]) -> u32 {
-    ((wide(b[0]) * 256 + wide(b[1])) * 256 + wide(b[2])) * 256 + wide(b[3])
 }
 
 fn main(rt: HostRuntime) {
@@ -150,6 +137,6 @@ fn main(rt: HostRuntime) {
         if input.read_exact(&mut bytes).is_err() {
             return;
         }
-        line(&rt, joined(&bytes));
+        line(&rt, u32::from_be_bytes(bytes));
     }
 }

@@ -3,6 +3,9 @@
 use Prim.Native.Nat.{ℕ}
 use mathlib.Core.Path.{sym, ◌∙◌}
 use mathlib.Core.List.{List}
+use Rattle.std.specs.Prelude.{Option}
+use Rattle.texts.proofs.put_words.Kinds as texts-put-words-kinds
+use Rattle.texts.proofs.put_words.Reads as texts-put-words
 use Rattle.lines.proofs.store.Kinds as lines-store-kinds
 use Rattle.lines.proofs.store.Reads as lines-store
 use Rattle.lines.proofs.store_element.Kinds as lines-store-element-kinds

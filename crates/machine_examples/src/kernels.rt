@@ -16,7 +16,7 @@ fn elements_read(rt: &impl Print, err: &impl Print) {
     tell(
         rt,
         err,
-        b"element loads at 0x1015: each in its place, the other bytes zero\n",
+        "element loads at 0x1015: each in its place, the other bytes zero",
         &code,
         &mut mem,
         0x1000,
@@ -46,7 +46,7 @@ fn elements_written(rt: &impl Print, err: &impl Print) {
     tell(
         rt,
         err,
-        b"element stores of ones at 0x1016: no other byte changes\n",
+        "element stores of ones at 0x1016: no other byte changes",
         &code,
         &mut mem,
         0x1000,
@@ -70,7 +70,7 @@ fn line_copied(rt: &impl Print, err: &impl Print) {
     tell(
         rt,
         err,
-        b"a line through a register\n",
+        "a line through a register",
         &code,
         &mut mem,
         0x1000,
@@ -98,7 +98,7 @@ fn unaligned_read(rt: &impl Print, err: &impl Print) {
     tell(
         rt,
         err,
-        b"sixteen bytes from 0x1005 on\n",
+        "sixteen bytes from 0x1005 on",
         &code,
         &mut mem,
         0x1000,
@@ -142,7 +142,7 @@ fn unaligned_write(rt: &impl Print, err: &impl Print) {
     tell(
         rt,
         err,
-        b"sixteen bytes of 2 from 0x1005 on: the bytes around them stay\n",
+        "sixteen bytes of 2 from 0x1005 on: the bytes around them stay",
         &code,
         &mut mem,
         0x1000,
@@ -172,7 +172,7 @@ fn sat_stays(rt: &impl Print, err: &impl Print) {
     tell(
         rt,
         err,
-        b"SAT stays on through an instruction that does not clip, and mtvscr turns it off\n",
+        "SAT stays on through an instruction that does not clip, and mtvscr turns it off",
         &code,
         &mut mem,
         0x1000,
@@ -194,7 +194,7 @@ fn status_both(rt: &impl Print, err: &impl Print) {
     tell(
         rt,
         err,
-        b"mtvscr sets NJ and SAT from bits 111 and 127, and ignores the rest\n",
+        "mtvscr sets NJ and SAT from bits 111 and 127, and ignores the rest",
         &code,
         &mut mem,
         0x1000,
@@ -220,7 +220,7 @@ fn target_is_source(rt: &impl Print, err: &impl Print) {
     tell(
         rt,
         err,
-        b"D is a source too\n",
+        "D is a source too",
         &code,
         &mut mem,
         0x1000,
@@ -242,7 +242,7 @@ fn summaries(rt: &impl Print, err: &impl Print) {
     tell(
         rt,
         err,
-        b"CR6 of a compare with Rc, and none of one without\n",
+        "CR6 of a compare with Rc, and none of one without",
         &code,
         &mut mem,
         0x1000,
@@ -262,7 +262,7 @@ fn none_true(rt: &impl Print, err: &impl Print) {
     tell(
         rt,
         err,
-        b"CR6 where no lane is true\n",
+        "CR6 where no lane is true",
         &code,
         &mut mem,
         0x1000,
@@ -306,7 +306,7 @@ fn correction(rt: &impl Print, err: &impl Print) {
     tell(
         rt,
         err,
-        b"a polynomial of degree 2 over a line: (0x1000 x + 0x2000) x + 0x4000, in 16-bit fixed point\n",
+        "a polynomial of degree 2 over a line: (0x1000 x + 0x2000) x + 0x4000, in 16-bit fixed point",
         &code,
         &mut mem,
         0x1000,
@@ -338,7 +338,7 @@ fn correction_clipped(rt: &impl Print, err: &impl Print) {
     tell(
         rt,
         err,
-        b"the same with a constant that clips: SAT says so\n",
+        "the same with a constant that clips: SAT says so",
         &code,
         &mut mem,
         0x1000,
@@ -368,7 +368,7 @@ fn widened_sum(rt: &impl Print, err: &impl Print) {
     tell(
         rt,
         err,
-        b"the sum of sixteen bytes\n",
+        "the sum of sixteen bytes",
         &code,
         &mut mem,
         0x1000,

@@ -1,5 +1,5 @@
 // Document 01's address examples, and where a run stops.
-use crate::show::{line, tell};
+use crate::show::{counted, line, tell};
 
 fn last_byte_of_the_line(rt: &impl Print, err: &impl Print) {
     let code = [
@@ -12,7 +12,7 @@ fn last_byte_of_the_line(rt: &impl Print, err: &impl Print) {
     tell(
         rt,
         err,
-        b"lvx at 0x100F, in a memory of 16 bytes at 0x1000\n",
+        "lvx at 0x100F, in a memory of 16 bytes at 0x1000",
         &code,
         &mut mem,
         0x1000,
@@ -32,7 +32,7 @@ fn one_past_the_end(rt: &impl Print, err: &impl Print) {
     tell(
         rt,
         err,
-        b"lvx at 0x1010, in the same memory\n",
+        "lvx at 0x1010, in the same memory",
         &code,
         &mut mem,
         0x1000,
@@ -54,7 +54,7 @@ fn wrapped_sum(rt: &impl Print, err: &impl Print) {
     tell(
         rt,
         err,
-        b"rA 0x1002 plus rB 0xFFFFFFFF is 0x1001\n",
+        "rA 0x1002 plus rB 0xFFFFFFFF is 0x1001",
         &code,
         &mut mem,
         0x1000,
@@ -74,7 +74,7 @@ fn end_of_the_addresses(rt: &impl Print, err: &impl Print) {
     tell(
         rt,
         err,
-        b"a memory that ends at 2^32\n",
+        "a memory that ends at 2^32",
         &code,
         &mut mem,
         0xfffffff0,
@@ -88,15 +88,11 @@ fn beyond_the_addresses(rt: &impl Print, err: &impl Print) {
         // addi r1, r0, -1
         0x3820ffff,
     ];
-    let mut mem: [u8; 32] = [
-        0x00, 0x01, 0x02, 0x03, 0x04, 0x05, 0x06, 0x07, 0x08, 0x09, 0x0a, 0x0b, 0x0c, 0x0d, 0x0e,
-        0x0f, 0x10, 0x11, 0x12, 0x13, 0x14, 0x15, 0x16, 0x17, 0x18, 0x19, 0x1a, 0x1b, 0x1c, 0x1d,
-        0x1e, 0x1f,
-    ];
+    let mut mem: [u8; 32] = counted();
     tell(
         rt,
         err,
-        b"a memory that would end beyond 2^32\n",
+        "a memory that would end beyond 2^32",
         &code,
         &mut mem,
         0xfffffff0,
@@ -110,14 +106,11 @@ fn uneven_length(rt: &impl Print, err: &impl Print) {
         // addi r1, r0, 1
         0x38200001,
     ];
-    let mut mem: [u8; 24] = [
-        0x00, 0x01, 0x02, 0x03, 0x04, 0x05, 0x06, 0x07, 0x08, 0x09, 0x0a, 0x0b, 0x0c, 0x0d, 0x0e,
-        0x0f, 0x10, 0x11, 0x12, 0x13, 0x14, 0x15, 0x16, 0x17,
-    ];
+    let mut mem: [u8; 24] = counted();
     tell(
         rt,
         err,
-        b"a memory of 24 bytes\n",
+        "a memory of 24 bytes",
         &code,
         &mut mem,
         0x1000,
@@ -141,7 +134,7 @@ fn number_zero(rt: &impl Print, err: &impl Print) {
     tell(
         rt,
         err,
-        b"field 0 means the number 0, and not general register 0\n",
+        "field 0 means the number 0, and not general register 0",
         &code,
         &mut mem,
         0x1000,
@@ -159,7 +152,7 @@ fn start_beyond(rt: &impl Print, err: &impl Print) {
     tell(
         rt,
         err,
-        b"a start beyond the code\n",
+        "a start beyond the code",
         &code,
         &mut mem,
         0x1000,
@@ -177,7 +170,7 @@ fn allowance_at_the_end(rt: &impl Print, err: &impl Print) {
     tell(
         rt,
         err,
-        b"allowance 0 at the end of the code\n",
+        "allowance 0 at the end of the code",
         &code,
         &mut mem,
         0x1000,
@@ -195,7 +188,7 @@ fn allowance_before_the_end(rt: &impl Print, err: &impl Print) {
     tell(
         rt,
         err,
-        b"allowance 0 before the end of the code\n",
+        "allowance 0 before the end of the code",
         &code,
         &mut mem,
         0x1000,
@@ -217,7 +210,7 @@ fn allowance_used_up(rt: &impl Print, err: &impl Print) {
     tell(
         rt,
         err,
-        b"allowance 2 for three words\n",
+        "allowance 2 for three words",
         &code,
         &mut mem,
         0x1000,
@@ -239,7 +232,7 @@ fn unknown_word(rt: &impl Print, err: &impl Print) {
     tell(
         rt,
         err,
-        b"a word that is no instruction, after one that is\n",
+        "a word that is no instruction, after one that is",
         &code,
         &mut mem,
         0x1000,
@@ -259,7 +252,7 @@ fn reserved_bit(rt: &impl Print, err: &impl Print) {
     tell(
         rt,
         err,
-        b"stvx with its last bit set, and an address outside: 6 comes before 7\n",
+        "stvx with its last bit set, and an address outside: 6 comes before 7",
         &code,
         &mut mem,
         0x1000,
