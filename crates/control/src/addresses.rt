@@ -5,6 +5,13 @@ ghost use Rattle.lanes.specs.Numbers.{bytes_in};
 
 use lanes::Size;
 
+// Where the memory lies: the address of its first byte, and how many bytes it has.
+#[derive(Clone, Copy)]
+pub struct Region {
+    pub base: u32,
+    pub length: usize,
+}
+
 // rA, or the number 0 where the field is 0.
 #[tactic(auto, unfolding(crate::specs::Addresses::or_zero))]
 fn or_zero(g: &[u32; 32], a: usize) -> u32
@@ -62,11 +69,11 @@ pub fn element(x: u32, width: Size) -> u32
     }
 }
 
-// Where the item at address e starts in a memory of length bytes at base, counted from the memory's first byte; none where it is outside.
+// Where the item at address e starts, counted from the memory's first byte; none where it is outside.
 #[tactic(auto, unfolding(crate::specs::Addresses::item_of))]
-pub fn find(e: u32, base: u32, length: usize) -> Option<usize>
-    ensures { result ≡ item_of e base length }
+pub fn find(e: u32, memory: Region) -> Option<usize>
+    ensures { result ≡ item_of e memory.base memory.length }
 {
-    let k = e.checked_sub(base)? as usize;
-    if k < length { Some(k) } else { None }
+    let k = e.checked_sub(memory.base)? as usize;
+    if k < memory.length { Some(k) } else { None }
 }

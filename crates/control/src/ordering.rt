@@ -5,7 +5,7 @@ ghost use Rattle.lanes.specs.Numbers.{bytes_in};
 ghost use Rattle.control.specs.Kinds.{kind_of};
 ghost use Rattle.control.specs.Orders.{element, order_in, order_of, general_of, InFields};
 
-use crate::addresses::{address, bytes, element, find, sum};
+use crate::addresses::{Region, address, bytes, element, find, sum};
 use crate::answers::Answer;
 use crate::kinds::{Kind, kind_of};
 use crate::orders::{Element, Order};
@@ -14,18 +14,18 @@ use encodings::ops::Op;
 use lanes::Size;
 
 // The line with the byte at address x, or answer 7.
-fn line_at(x: u32, base: u32, length: usize) -> Result<usize, Answer>
-    ensures { result ≡ ok_or (item_of (aligned 16 x) base length) Answer.Outside }
+fn line_at(x: u32, memory: Region) -> Result<usize, Answer>
+    ensures { result ≡ ok_or (item_of (aligned 16 x) memory.base memory.length) Answer.Outside }
 {
-    find(x / 16 * 16, base, length).ok_or(Answer::Outside)
+    find(x / 16 * 16, memory).ok_or(Answer::Outside)
 }
 
 // The element of that width with the byte at address x, or answer 7.
-fn element_at(x: u32, width: Size, base: u32, length: usize) -> Result<Element, Answer>
-    ensures { result ≡ ok_or (option_map (element (aligned (bytes_in width) x) (bytes_in width)) (item_of (aligned (bytes_in width) x) base length)) Answer.Outside }
+fn element_at(x: u32, width: Size, memory: Region) -> Result<Element, Answer>
+    ensures { result ≡ ok_or (option_map (element (aligned (bytes_in width) x) (bytes_in width)) (item_of (aligned (bytes_in width) x) memory.base memory.length)) Answer.Outside }
 {
     let e = element(x, width);
-    let k = find(e, base, length).ok_or(Answer::Outside)?;
+    let k = find(e, memory).ok_or(Answer::Outside)?;
     Ok(Element {
         at: k / 16 * 16,
         place: (e % 16) as usize,
@@ -34,9 +34,9 @@ fn element_at(x: u32, width: Size, base: u32, length: usize) -> Result<Element, 
 }
 
 // What the kind of an operation orders, or answer 7 where its item is outside the memory.
-fn order_in(op: Op, w: Decoded, g: &[u32; 32], base: u32, length: usize) -> Result<Order, Answer>
+fn order_in(op: Op, w: Decoded, g: &[u32; 32], memory: Region) -> Result<Order, Answer>
     requires { InFields w }
-    ensures { result ≡ order_in (kind_of op) op (address_of g.now w.a w.b) (sum_of g.now w.a w.imm) base length }
+    ensures { result ≡ order_in (kind_of op) op (address_of g.now w.a w.b) (sum_of g.now w.a w.imm) memory.base memory.length }
 {
     match kind_of(op) {
         Kind::Vector => Ok(Order::Compute(op)),
@@ -45,19 +45,19 @@ fn order_in(op: Op, w: Decoded, g: &[u32; 32], base: u32, length: usize) -> Resu
         Kind::LeftPattern => Ok(Order::PatternLeft((address(g, w.a, w.b) % 16) as usize)),
         Kind::RightPattern => Ok(Order::PatternRight((address(g, w.a, w.b) % 16) as usize)),
         Kind::GetElement(width) => {
-            let e = element_at(address(g, w.a, w.b), width, base, length)?;
+            let e = element_at(address(g, w.a, w.b), width, memory)?;
             Ok(Order::ReadElement(e))
         }
         Kind::GetLine => {
-            let k = line_at(address(g, w.a, w.b), base, length)?;
+            let k = line_at(address(g, w.a, w.b), memory)?;
             Ok(Order::ReadLine(k))
         }
         Kind::PutElement(width) => {
-            let e = element_at(address(g, w.a, w.b), width, base, length)?;
+            let e = element_at(address(g, w.a, w.b), width, memory)?;
             Ok(Order::WriteElement(e))
         }
         Kind::PutLine => {
-            let k = line_at(address(g, w.a, w.b), base, length)?;
+            let k = line_at(address(g, w.a, w.b), memory)?;
             Ok(Order::WriteLine(k))
         }
         Kind::AddScalar => Ok(Order::SetGeneral(sum(g, w.a, w.imm))),
@@ -66,15 +66,15 @@ fn order_in(op: Op, w: Decoded, g: &[u32; 32], base: u32, length: usize) -> Resu
 
 // The order for a word: answer 5, then 6, then 7.
 #[tactic(auto, unfolding(crate::specs::Orders::order_of))]
-pub fn order_for(w: Decoded, g: &[u32; 32], base: u32, length: usize) -> Result<Order, Answer>
+pub fn order_for(w: Decoded, g: &[u32; 32], memory: Region) -> Result<Order, Answer>
     requires { InFields w }
-    ensures { result ≡ order_of w g.now base length }
+    ensures { result ≡ order_of w g.now memory.base memory.length }
 {
     let op = w.op.ok_or(Answer::NoInstruction)?;
     if w.stray {
         return Err(Answer::Reserved);
     }
-    order_in(op, w, g, base, length)
+    order_in(op, w, g, memory)
 }
 
 // The general registers after an order, D being d.

@@ -3,6 +3,7 @@
 
 ghost use Rattle.control.specs.Orders.{InFields};
 
+use control::Region;
 use control::answers::Answer;
 use control::orders::Order;
 use decode::Decoded;
@@ -42,7 +43,7 @@ fn fields(word: u32) -> Decoded
 
 fn show(rt: &impl Print, name: &str, word: u32, g: &mut [u32; 32], base: u32, length: usize) {
     let w = fields(word);
-    let o = control::control(w, g, base, length);
+    let o = control::control(w, g, Region { base, length });
     let _ = println!(rt; "{name}: {}; r{} {}", Told(o), w.d, g[w.d]);
 }
 

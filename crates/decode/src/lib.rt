@@ -12,7 +12,8 @@ use encodings::ops::Op;
 use reserved::{Run, any, clear};
 use traits::reserved;
 
-// A word taken apart.
+// A word taken apart. That its fields have their sizes is a clause of who takes it (`InFields`) and no type of its own: a struct with an
+// invariant is not copied when it is passed by value and used again, as the loop of a run does with this one.
 #[derive(Clone, Copy)]
 pub struct Decoded {
     // The operation; none where the word carries no instruction, which is answer 5.

@@ -7,7 +7,7 @@ ghost use Rattle.std.specs.Prelude.{◌≡◌};
 ghost use Rattle.machine.specs.Runs.{run_of, Gives};
 
 pub use control::answers::Answer;
-use control::well_placed;
+use control::{Region, well_placed};
 use flags::Flags;
 pub use walk::Report;
 use walk::steps;
@@ -47,7 +47,11 @@ impl Machine {
     pub fn run(self, code: &[u32], mem: &mut [u8], base: u32, place: u32, allowance: u32) -> Ran
         ensures { Gives (run_of code.now mem.old base place allowance self) result.report result.m mem.new }
     {
-        if !well_placed(base, mem.len()) {
+        let memory = Region {
+            base,
+            length: mem.len(),
+        };
+        if !well_placed(memory) {
             return self.kept(Answer::Misplaced, place);
         }
         if 16384 < code.len() {

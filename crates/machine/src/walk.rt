@@ -4,7 +4,7 @@ ghost use Rattle.control.specs.Addresses.{well_placed};
 ghost use Rattle.machine.specs.Runs.{machine_of, walked_of, starts, runs, Gives};
 
 use control::answers::Answer;
-use control::control;
+use control::{Region, control};
 use decode::decode;
 use effects::effect;
 use flags::Flags;
@@ -56,7 +56,11 @@ pub fn steps(
             return stopped(Answer::Done, count, at, f);
         }
         let w = decode(code[k]);
-        match control(w, g, base, mem.len()) {
+        let memory = Region {
+            base,
+            length: mem.len(),
+        };
+        match control(w, g, memory) {
             Err(answer) => return stopped(answer, count, at, f),
             Ok(order) => f = effect(order, w, v, f, mem),
         }

@@ -9,6 +9,9 @@ ghost use Rattle.registers.specs.Registers.{at, bare, Leaves};
 use lanes::Marked;
 use lines::{set_vector, vector};
 
+// A register is a number below 32, which each clause says: as a type with an invariant it would have to be opened where it is used, here and
+// in the loop, and the clauses of the decoded word would stay.
+
 // What an instruction gives: bytes with marks, or bytes with none.
 pub trait Outcome: Copy {
     ghost marked: { Self → Marked };
