@@ -21,12 +21,13 @@ fn or_zero(g: &[u32; 32], a: usize) -> u32
     if a == 0 { 0 } else { g[a] }
 }
 
+// Addresses and addi wrap on purpose.
 #[tactic(auto, unfolding(crate::specs::Addresses::address_of))]
 pub fn address(g: &[u32; 32], a: usize, b: usize) -> u32
     requires { (a < 32) × (b < 32) }
     ensures { result ≡ address_of g.now a b }
 {
-    std::num::wrapping_add_u32(or_zero(g, a), g[b])
+    or_zero(g, a).wrapping_add(g[b])
 }
 
 // An immediate of sixteen bits, sign-extended.
@@ -44,7 +45,7 @@ pub fn sum(g: &[u32; 32], a: usize, n: u32) -> u32
     requires { (a < 32) × (n < 65536) }
     ensures { result ≡ sum_of g.now a n }
 {
-    std::num::wrapping_add_u32(or_zero(g, a), extend(n))
+    or_zero(g, a).wrapping_add(extend(n))
 }
 
 // How many bytes an element has.

@@ -4,7 +4,7 @@ ghost use Rattle.decode.specs.Reserved.{any_of, without};
 
 #[derive(Clone, Copy)]
 pub enum Run {
-    // No bit.
+    // No bit; a run as the others are, whose end is before its start.
     Empty,
     // Bit 31.
     Last,
@@ -23,6 +23,8 @@ pub enum Run {
     BeforeHalfLane,
     BeforeWordLane,
 }
+
+// Both go by constants, so that no word is divided by a number that is known only when it runs.
 
 // Whether a bit of the run is set.
 pub fn any(run: Run, word: u32) -> bool

@@ -6,6 +6,8 @@ use crate::reserved::Run;
 use encodings::ops::Op;
 use lanes::Size;
 
+// A row of the table stands in one line, as in the definition and in the paper; with named fields it would take five.
+
 // Whether the vectors A, B, C and D are read, and whether D is written.
 #[derive(Clone, Copy)]
 struct Vectors(bool, bool, bool, bool, bool);

@@ -1,4 +1,4 @@
--- The width of a lane, and operands that are lanes of it: what the operations at a lane ask of their caller. Assumes nothing.
+-- The width of a lane, and operands that are lanes of it, which the laws of the operations speak of. Assumes nothing.
 use Rattle.std.specs.Prelude.{◌≡◌, ℕ, ◌+◌, ◌*◌, ◌/◌, ◌^◌, ◌<◌, ◌≤◌}
 use Rattle.lanes.specs.declared.Lane.{Lane}
 use Rattle.lanes.specs.declared.Operands.{Operands}
@@ -13,12 +13,6 @@ pub record Width (w m : ℕ) : Type 0 where
   pub wide : 1 < m
   pub small : m ≤ 2 ^ 32
   pub even : m ≡ m / 2 + m / 2
-
--- r is 2 to half of w
-pub record HalfWidth (w m r : ℕ) : Type 0 where
-  pub part : Width (w / 2) r
-  pub square : m ≡ r * r
-  pub narrow : r ≤ 2 ^ 16
 
 -- the operands are lanes of w bits
 pub record InLane (w m : ℕ) (o : Operands) : Type 0 where

@@ -91,7 +91,8 @@ const HALVES_TURNED: [usize; 16] = [1, 0, 3, 2, 5, 4, 7, 6, 9, 8, 11, 10, 13, 12
 
 const WORDS_TURNED: [usize; 16] = [3, 2, 1, 0, 7, 6, 5, 4, 11, 10, 9, 8, 15, 14, 13, 12];
 
-// The lanes of a vector, each as an unsigned number; the first byte of a lane is its highest.
+// The lanes of a vector, each as an unsigned number; the first byte of a lane is its highest. A function for each size, since the type of the
+// lanes is its result: as one function over a trait it would be three impls of one line each.
 #[inline(always)]
 pub fn bytes(v: [u8; 16]) -> u8x16
     ensures { Holds Size.Byte v result }

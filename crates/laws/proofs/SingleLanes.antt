@@ -13,6 +13,8 @@ use Rattle.lanes.proofs.of_halves.Kinds as lanes-of-halves-kinds
 use Rattle.lanes.proofs.of_halves.Reads as lanes-of-halves
 use Rattle.lanes.proofs.of_words.Kinds as lanes-of-words-kinds
 use Rattle.lanes.proofs.of_words.Reads as lanes-of-words
+use Rattle.lanes.proofs.with_marks.Kinds as lanes-with-marks-kinds
+use Rattle.lanes.proofs.with_marks.Reads as lanes-with-marks
 use Rattle.lanes.proofs.all_true.Kinds as lanes-all-true-kinds
 use Rattle.lanes.proofs.all_true.Reads as lanes-all-true
 use Rattle.lanes.proofs.none_true.Kinds as lanes-none-true-kinds
@@ -36,6 +38,9 @@ one_lanes-of_halves κs a x y s t p q = p ∙ sym q
 
 pub one_lanes-of_words : OneResult 0 lanes-of-words-kinds.ps lanes-of-words-kinds.r lanes-of-words.Post
 one_lanes-of_words κs a x y s t p q = p ∙ sym q
+
+pub one_lanes-with_marks : OneResult 0 lanes-with-marks-kinds.ps lanes-with-marks-kinds.r lanes-with-marks.Post
+one_lanes-with_marks κs a x y s t p q = p ∙ sym q
 
 pub one_lanes-all_true : OneResult 0 lanes-all-true-kinds.ps lanes-all-true-kinds.r lanes-all-true.Post
 one_lanes-all_true κs a x y s t p q = p ∙ sym q

@@ -78,6 +78,7 @@ fn repeated(b: [u8; 16], k: u8, at: [u8; 16]) -> [u8; 16]
     named(v, u8x16::splat(k) + u8x16::from_array(at)).to_array()
 }
 
+// Each is one call; what differs is the lane's size, and the names are the instructions'.
 pub fn vspltb(b: [u8; 16], lane: u8) -> [u8; 16]
     ensures { result ≡ splat Size.Byte b lane }
 {

@@ -24,6 +24,7 @@ fn bytes_of(x: u128) -> [u8; 16]
         .to_array()
 }
 
+// The two differ in one operator.
 pub fn vsl(a: [u8; 16], b: [u8; 16]) -> [u8; 16]
     ensures { result ≡ shifted_left a b }
 {

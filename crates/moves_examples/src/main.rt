@@ -5,56 +5,56 @@
 use hexlines::{marked, show};
 
 fn chosen(rt: &impl Print, a: [u8; 16], b: [u8; 16], c: [u8; 16]) {
-    show(rt, "vmrghb", moves::vmrghb(a, b));
-    show(rt, "vmrghh", moves::vmrghh(a, b));
-    show(rt, "vmrghw", moves::vmrghw(a, b));
-    show(rt, "vmrglb", moves::vmrglb(a, b));
-    show(rt, "vmrglh", moves::vmrglh(a, b));
-    show(rt, "vmrglw", moves::vmrglw(a, b));
-    show(rt, "vpkuhum", packing::vpkuhum(a, b));
-    show(rt, "vpkuwum", packing::vpkuwum(a, b));
-    show(rt, "vsl", moves::vsl(a, b));
-    show(rt, "vsr", moves::vsr(a, b));
-    show(rt, "vslo", slides::vslo(a, b));
-    show(rt, "vsro", slides::vsro(a, b));
-    show(rt, "vperm", moves::vperm(a, b, c));
+    show(rt, b"vmrghb", moves::vmrghb(a, b));
+    show(rt, b"vmrghh", moves::vmrghh(a, b));
+    show(rt, b"vmrghw", moves::vmrghw(a, b));
+    show(rt, b"vmrglb", moves::vmrglb(a, b));
+    show(rt, b"vmrglh", moves::vmrglh(a, b));
+    show(rt, b"vmrglw", moves::vmrglw(a, b));
+    show(rt, b"vpkuhum", packing::vpkuhum(a, b));
+    show(rt, b"vpkuwum", packing::vpkuwum(a, b));
+    show(rt, b"vsl", moves::vsl(a, b));
+    show(rt, b"vsr", moves::vsr(a, b));
+    show(rt, b"vslo", slides::vslo(a, b));
+    show(rt, b"vsro", slides::vsro(a, b));
+    show(rt, b"vperm", moves::vperm(a, b, c));
 }
 
 fn resized(rt: &impl Print, a: [u8; 16], b: [u8; 16]) {
-    marked(rt, "vpkuhus", packing::vpkuhus(a, b));
-    marked(rt, "vpkuwus", packing::vpkuwus(a, b));
-    marked(rt, "vpkshus", packing::vpkshus(a, b));
-    marked(rt, "vpkswus", packing::vpkswus(a, b));
-    marked(rt, "vpkshss", packing::vpkshss(a, b));
-    marked(rt, "vpkswss", packing::vpkswss(a, b));
-    marked(rt, "vsum2sws", packing::vsum2sws(a, b));
-    marked(rt, "vsumsws", packing::vsumsws(a, b));
-    show(rt, "vupkhsb", packing::vupkhsb(b));
-    show(rt, "vupkhsh", packing::vupkhsh(b));
-    show(rt, "vupklsb", packing::vupklsb(b));
-    show(rt, "vupklsh", packing::vupklsh(b));
+    marked(rt, b"vpkuhus", packing::vpkuhus(a, b));
+    marked(rt, b"vpkuwus", packing::vpkuwus(a, b));
+    marked(rt, b"vpkshus", packing::vpkshus(a, b));
+    marked(rt, b"vpkswus", packing::vpkswus(a, b));
+    marked(rt, b"vpkshss", packing::vpkshss(a, b));
+    marked(rt, b"vpkswss", packing::vpkswss(a, b));
+    marked(rt, b"vsum2sws", packing::vsum2sws(a, b));
+    marked(rt, b"vsumsws", packing::vsumsws(a, b));
+    show(rt, b"vupkhsb", packing::vupkhsb(b));
+    show(rt, b"vupkhsh", packing::vupkhsh(b));
+    show(rt, b"vupklsb", packing::vupklsb(b));
+    show(rt, b"vupklsh", packing::vupklsh(b));
 }
 
 fn numbered(rt: &impl Print, a: [u8; 16], b: [u8; 16], n: u8) {
-    show(rt, "vsldoi", slides::vsldoi(a, b, n));
-    show(rt, "vspltb", moves::vspltb(b, n));
-    show(rt, "vsplth", moves::vsplth(b, n));
-    show(rt, "vspltw", moves::vspltw(b, n));
-    show(rt, "lvsl", moves::lvsl(n));
-    show(rt, "lvsr", moves::lvsr(n));
+    show(rt, b"vsldoi", slides::vsldoi(a, b, n));
+    show(rt, b"vspltb", moves::vspltb(b, n));
+    show(rt, b"vsplth", moves::vsplth(b, n));
+    show(rt, b"vspltw", moves::vspltw(b, n));
+    show(rt, b"lvsl", moves::lvsl(n));
+    show(rt, b"lvsr", moves::lvsr(n));
 }
 
 // Document 001, vslo: a pair of shifts by the same count moves the whole register by up to 127 bits.
 fn pairs(rt: &impl Print, a: [u8; 16], n: u8) {
     let count = [n; 16];
-    show(rt, "left", moves::vsl(slides::vslo(a, count), count));
-    show(rt, "right", moves::vsr(slides::vsro(a, count), count));
+    show(rt, b"left", moves::vsl(slides::vslo(a, count), count));
+    show(rt, b"right", moves::vsr(slides::vsro(a, count), count));
 }
 
 // Document 001, lvsr: a rotation by bytes.
 fn rotated(rt: &impl Print, a: [u8; 16], n: u8) {
-    show(rt, "rotated left", moves::vperm(a, a, moves::lvsl(n)));
-    show(rt, "rotated right", moves::vperm(a, a, moves::lvsr(n)));
+    show(rt, b"rotated left", moves::vperm(a, a, moves::lvsl(n)));
+    show(rt, b"rotated right", moves::vperm(a, a, moves::lvsr(n)));
 }
 
 // Document 001, vsr: two registers shifted left by n bits in six instructions, and the left one of the two kept.
@@ -63,17 +63,17 @@ fn doubled(rt: &impl Print, w: [u8; 16], x: [u8; 16], n: u8) {
     let t1 = moves::vsl(slides::vslo(w, y), y);
     let t3 = vector::vsububm([0; 16], y);
     let t2 = moves::vsr(slides::vsro(x, t3), t3);
-    show(rt, "doubled", vector::vor(t1, t2));
+    show(rt, b"doubled", vector::vor(t1, t2));
 }
 
 // Document 003, "Accessing Unaligned Storage Operands": a quad word at address 11, loaded from the two lines that hold it, and stored into them.
 fn unaligned(rt: &impl Print, high: [u8; 16], low: [u8; 16], s: [u8; 16]) {
-    show(rt, "loaded", moves::vperm(high, low, moves::lvsl(11)));
+    show(rt, b"loaded", moves::vperm(high, low, moves::lvsl(11)));
     let p = moves::lvsr(11);
     let mask = moves::vperm(vector::vspltisb(0), vector::vspltisb(31), p);
     let t = moves::vperm(s, s, p);
-    show(rt, "stored high", vector::vsel(high, t, mask));
-    show(rt, "stored low", vector::vsel(t, low, mask));
+    show(rt, b"stored high", vector::vsel(high, t, mask));
+    show(rt, b"stored low", vector::vsel(t, low, mask));
 }
 
 fn on(rt: &impl Print, a: [u8; 16], b: [u8; 16], c: [u8; 16]) {
@@ -98,7 +98,7 @@ fn main(rt: HostRuntime) {
     // Document 01: vpkshus 255 and 256.
     marked(
         &rt,
-        "vpkshus",
+        b"vpkshus",
         packing::vpkshus(
             [0, 255, 1, 0, 0, 255, 1, 0, 0, 255, 1, 0, 0, 255, 1, 0],
             [0, 255, 1, 0, 0, 255, 1, 0, 0, 255, 1, 0, 0, 255, 1, 0],

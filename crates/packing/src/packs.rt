@@ -9,7 +9,8 @@ use crate::narrowed::{low_bytes, low_halves, to_bytes, to_halves};
 use lanes::{Marked, Size, halves, of_bytes, of_halves, words};
 use std::simd::prelude::*;
 
-// The halves of a followed by b, and the words.
+// The halves of a followed by b, and the words. The types of the lanes differ, and a shuffle has its places for one type alone; so there are
+// two of this and of what narrows them, and an instruction is one call.
 #[inline(always)]
 fn halves_of(a: [u8; 16], b: [u8; 16]) -> u16x16
     ensures is { result ≡ lanes_of Size.Half a ++ lanes_of Size.Half b }

@@ -14,6 +14,7 @@ fn signs(v: u8x16) -> u8x16
         .select(u8x16::splat(0), u8x16::splat(255))
 }
 
+// The four differ in the places of a shuffle, which are constants of each.
 pub fn vupkhsb(b: [u8; 16]) -> [u8; 16]
     ensures { result ≡ unpacked_high Size.Byte Size.Half b }
 {

@@ -54,14 +54,6 @@ module _ (base : ℕ) where
 pub product : (v base : ℕ) → v ≤ 4294967296 → base ≤ 16 → v * base ≤ 68719476736
 product v base h k = mul-le-mul h k
 
--- a text that begins with `0x` has two characters
-both : (b c : Bool) → cond b c false ≡ true → b ≡ true
-both true c e = refl
-both false c e = e
-
-pub hex_long : (t : List ℕ) → is_hex t ≡ true → 2 ≤ length t
-hex_long t e = ltb-true 1 (length t) (both (ltb 1 (length t)) _ e)
-
 -- where either value of a digit is below 16, std's is that of the definition
 below : (c : ℕ) → digit_value c < 16 → digit_value c ≡ digit_of c
 unfolding digit_of

@@ -46,7 +46,7 @@ fn digit(c: u8, base: u32) -> Option<u32>
     char::from(c).to_digit(base)
 }
 
-// From 2^32 on every value is too large, and 2^32 stands for it.
+// From 2^32 on every value is too large, and 2^32 stands for it, as in the definition `capped_of`.
 #[tactic(auto, unfolding(crate::specs::Numbers::capped_of))]
 fn capped(v: u64) -> u64
     ensures { (result ≡ capped_of v) × (result ≤ 4294967296) }

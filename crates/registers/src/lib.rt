@@ -41,7 +41,8 @@ impl Outcome for [u8; 16] {
     }
 }
 
-// The instruction f of register a goes into register d.
+// The instruction f of register a goes into register d. One function for each number of operands: a parameter that is a list of operands would
+// have to be checked against the instruction.
 pub fn on_one<R: Outcome, F: Fn([u8; 16]) -> R>(v: &mut [u8; 512], d: usize, a: usize, f: F) -> u32
     requires inside { (d < 32) × (a < 32) }
     requires can { F.pre f (at v.old a) }

@@ -11,7 +11,8 @@ ghost use Rattle.lanes.specs.Placed.{lanes_of, placed};
 use lanes::{Marked, Size, halves, of_halves, of_words, with_marks};
 use std::simd::prelude::*;
 
-// The low byte of each half, and of each word, with its sign carried through the lane.
+// The low byte of each half, and of each word, with its sign carried through the lane. As in lib.rt, no type parameter has the operators
+// that the three need.
 #[inline(always)]
 pub fn signed_byte_of_half(x: u16x8) -> u16x8
     ensures { result ≡ map (λ t. of_z w16 (signed (2 ^ 8) (t % 2 ^ 8))) x }

@@ -4,124 +4,124 @@
 use hexlines::{marked, show};
 
 fn group_0(rt: &impl Print, a: [u8; 16], b: [u8; 16], c: [u8; 16], i: u8) {
-    show(rt, "vaddubm", vector::vaddubm(a, b));
-    show(rt, "vadduhm", vector::vadduhm(a, b));
-    show(rt, "vadduwm", vector::vadduwm(a, b));
-    show(rt, "vaddcuw", vector::vaddcuw(a, b));
-    marked(rt, "vaddubs", vector::vaddubs(a, b));
-    marked(rt, "vadduhs", vector::vadduhs(a, b));
-    marked(rt, "vadduws", vector::vadduws(a, b));
-    marked(rt, "vaddsbs", vector::vaddsbs(a, b));
+    show(rt, b"vaddubm", vector::vaddubm(a, b));
+    show(rt, b"vadduhm", vector::vadduhm(a, b));
+    show(rt, b"vadduwm", vector::vadduwm(a, b));
+    show(rt, b"vaddcuw", vector::vaddcuw(a, b));
+    marked(rt, b"vaddubs", vector::vaddubs(a, b));
+    marked(rt, b"vadduhs", vector::vadduhs(a, b));
+    marked(rt, b"vadduws", vector::vadduws(a, b));
+    marked(rt, b"vaddsbs", vector::vaddsbs(a, b));
 }
 
 fn group_1(rt: &impl Print, a: [u8; 16], b: [u8; 16], c: [u8; 16], i: u8) {
-    marked(rt, "vaddshs", vector::vaddshs(a, b));
-    marked(rt, "vaddsws", vector::vaddsws(a, b));
-    show(rt, "vsububm", vector::vsububm(a, b));
-    show(rt, "vsubuhm", vector::vsubuhm(a, b));
-    show(rt, "vsubuwm", vector::vsubuwm(a, b));
-    show(rt, "vsubcuw", vector::vsubcuw(a, b));
-    marked(rt, "vsububs", vector::vsububs(a, b));
-    marked(rt, "vsubuhs", vector::vsubuhs(a, b));
+    marked(rt, b"vaddshs", vector::vaddshs(a, b));
+    marked(rt, b"vaddsws", vector::vaddsws(a, b));
+    show(rt, b"vsububm", vector::vsububm(a, b));
+    show(rt, b"vsubuhm", vector::vsubuhm(a, b));
+    show(rt, b"vsubuwm", vector::vsubuwm(a, b));
+    show(rt, b"vsubcuw", vector::vsubcuw(a, b));
+    marked(rt, b"vsububs", vector::vsububs(a, b));
+    marked(rt, b"vsubuhs", vector::vsubuhs(a, b));
 }
 
 fn group_2(rt: &impl Print, a: [u8; 16], b: [u8; 16], c: [u8; 16], i: u8) {
-    marked(rt, "vsubuws", vector::vsubuws(a, b));
-    marked(rt, "vsubsbs", vector::vsubsbs(a, b));
-    marked(rt, "vsubshs", vector::vsubshs(a, b));
-    marked(rt, "vsubsws", vector::vsubsws(a, b));
-    show(rt, "vmaxub", vector::vmaxub(a, b));
-    show(rt, "vmaxuh", vector::vmaxuh(a, b));
-    show(rt, "vmaxuw", vector::vmaxuw(a, b));
-    show(rt, "vmaxsb", vector::vmaxsb(a, b));
+    marked(rt, b"vsubuws", vector::vsubuws(a, b));
+    marked(rt, b"vsubsbs", vector::vsubsbs(a, b));
+    marked(rt, b"vsubshs", vector::vsubshs(a, b));
+    marked(rt, b"vsubsws", vector::vsubsws(a, b));
+    show(rt, b"vmaxub", vector::vmaxub(a, b));
+    show(rt, b"vmaxuh", vector::vmaxuh(a, b));
+    show(rt, b"vmaxuw", vector::vmaxuw(a, b));
+    show(rt, b"vmaxsb", vector::vmaxsb(a, b));
 }
 
 fn group_3(rt: &impl Print, a: [u8; 16], b: [u8; 16], c: [u8; 16], i: u8) {
-    show(rt, "vmaxsh", vector::vmaxsh(a, b));
-    show(rt, "vmaxsw", vector::vmaxsw(a, b));
-    show(rt, "vminub", vector::vminub(a, b));
-    show(rt, "vminuh", vector::vminuh(a, b));
-    show(rt, "vminuw", vector::vminuw(a, b));
-    show(rt, "vminsb", vector::vminsb(a, b));
-    show(rt, "vminsh", vector::vminsh(a, b));
-    show(rt, "vminsw", vector::vminsw(a, b));
+    show(rt, b"vmaxsh", vector::vmaxsh(a, b));
+    show(rt, b"vmaxsw", vector::vmaxsw(a, b));
+    show(rt, b"vminub", vector::vminub(a, b));
+    show(rt, b"vminuh", vector::vminuh(a, b));
+    show(rt, b"vminuw", vector::vminuw(a, b));
+    show(rt, b"vminsb", vector::vminsb(a, b));
+    show(rt, b"vminsh", vector::vminsh(a, b));
+    show(rt, b"vminsw", vector::vminsw(a, b));
 }
 
 fn group_4(rt: &impl Print, a: [u8; 16], b: [u8; 16], c: [u8; 16], i: u8) {
-    show(rt, "vavgub", vector::vavgub(a, b));
-    show(rt, "vavguh", vector::vavguh(a, b));
-    show(rt, "vavguw", vector::vavguw(a, b));
-    show(rt, "vavgsb", vector::vavgsb(a, b));
-    show(rt, "vavgsh", vector::vavgsh(a, b));
-    show(rt, "vavgsw", vector::vavgsw(a, b));
-    show(rt, "vrlb", vector::vrlb(a, b));
-    show(rt, "vrlh", vector::vrlh(a, b));
+    show(rt, b"vavgub", vector::vavgub(a, b));
+    show(rt, b"vavguh", vector::vavguh(a, b));
+    show(rt, b"vavguw", vector::vavguw(a, b));
+    show(rt, b"vavgsb", vector::vavgsb(a, b));
+    show(rt, b"vavgsh", vector::vavgsh(a, b));
+    show(rt, b"vavgsw", vector::vavgsw(a, b));
+    show(rt, b"vrlb", vector::vrlb(a, b));
+    show(rt, b"vrlh", vector::vrlh(a, b));
 }
 
 fn group_5(rt: &impl Print, a: [u8; 16], b: [u8; 16], c: [u8; 16], i: u8) {
-    show(rt, "vrlw", vector::vrlw(a, b));
-    show(rt, "vslb", vector::vslb(a, b));
-    show(rt, "vslh", vector::vslh(a, b));
-    show(rt, "vslw", vector::vslw(a, b));
-    show(rt, "vsrb", vector::vsrb(a, b));
-    show(rt, "vsrh", vector::vsrh(a, b));
-    show(rt, "vsrw", vector::vsrw(a, b));
-    show(rt, "vsrab", vector::vsrab(a, b));
+    show(rt, b"vrlw", vector::vrlw(a, b));
+    show(rt, b"vslb", vector::vslb(a, b));
+    show(rt, b"vslh", vector::vslh(a, b));
+    show(rt, b"vslw", vector::vslw(a, b));
+    show(rt, b"vsrb", vector::vsrb(a, b));
+    show(rt, b"vsrh", vector::vsrh(a, b));
+    show(rt, b"vsrw", vector::vsrw(a, b));
+    show(rt, b"vsrab", vector::vsrab(a, b));
 }
 
 fn group_6(rt: &impl Print, a: [u8; 16], b: [u8; 16], c: [u8; 16], i: u8) {
-    show(rt, "vsrah", vector::vsrah(a, b));
-    show(rt, "vsraw", vector::vsraw(a, b));
-    show(rt, "vand", vector::vand(a, b));
-    show(rt, "vandc", vector::vandc(a, b));
-    show(rt, "vor", vector::vor(a, b));
-    show(rt, "vxor", vector::vxor(a, b));
-    show(rt, "vnor", vector::vnor(a, b));
-    show(rt, "vmuloub", vector::vmuloub(a, b));
+    show(rt, b"vsrah", vector::vsrah(a, b));
+    show(rt, b"vsraw", vector::vsraw(a, b));
+    show(rt, b"vand", vector::vand(a, b));
+    show(rt, b"vandc", vector::vandc(a, b));
+    show(rt, b"vor", vector::vor(a, b));
+    show(rt, b"vxor", vector::vxor(a, b));
+    show(rt, b"vnor", vector::vnor(a, b));
+    show(rt, b"vmuloub", vector::vmuloub(a, b));
 }
 
 fn group_7(rt: &impl Print, a: [u8; 16], b: [u8; 16], c: [u8; 16], i: u8) {
-    show(rt, "vmulouh", vector::vmulouh(a, b));
-    show(rt, "vmulosb", vector::vmulosb(a, b));
-    show(rt, "vmulosh", vector::vmulosh(a, b));
-    show(rt, "vmuleub", vector::vmuleub(a, b));
-    show(rt, "vmuleuh", vector::vmuleuh(a, b));
-    show(rt, "vmulesb", vector::vmulesb(a, b));
-    show(rt, "vmulesh", vector::vmulesh(a, b));
-    marked(rt, "vsum4ubs", vector::vsum4ubs(a, b));
+    show(rt, b"vmulouh", vector::vmulouh(a, b));
+    show(rt, b"vmulosb", vector::vmulosb(a, b));
+    show(rt, b"vmulosh", vector::vmulosh(a, b));
+    show(rt, b"vmuleub", vector::vmuleub(a, b));
+    show(rt, b"vmuleuh", vector::vmuleuh(a, b));
+    show(rt, b"vmulesb", vector::vmulesb(a, b));
+    show(rt, b"vmulesh", vector::vmulesh(a, b));
+    marked(rt, b"vsum4ubs", vector::vsum4ubs(a, b));
 }
 
 fn group_8(rt: &impl Print, a: [u8; 16], b: [u8; 16], c: [u8; 16], i: u8) {
-    marked(rt, "vsum4sbs", vector::vsum4sbs(a, b));
-    marked(rt, "vsum4shs", vector::vsum4shs(a, b));
-    show(rt, "vspltisb", vector::vspltisb(i));
-    show(rt, "vspltish", vector::vspltish(i));
-    show(rt, "vspltisw", vector::vspltisw(i));
-    show(rt, "vcmpequb", vector::vcmpequb(a, b));
-    show(rt, "vcmpequh", vector::vcmpequh(a, b));
-    show(rt, "vcmpequw", vector::vcmpequw(a, b));
+    marked(rt, b"vsum4sbs", vector::vsum4sbs(a, b));
+    marked(rt, b"vsum4shs", vector::vsum4shs(a, b));
+    show(rt, b"vspltisb", vector::vspltisb(i));
+    show(rt, b"vspltish", vector::vspltish(i));
+    show(rt, b"vspltisw", vector::vspltisw(i));
+    show(rt, b"vcmpequb", vector::vcmpequb(a, b));
+    show(rt, b"vcmpequh", vector::vcmpequh(a, b));
+    show(rt, b"vcmpequw", vector::vcmpequw(a, b));
 }
 
 fn group_9(rt: &impl Print, a: [u8; 16], b: [u8; 16], c: [u8; 16], i: u8) {
-    show(rt, "vcmpgtub", vector::vcmpgtub(a, b));
-    show(rt, "vcmpgtuh", vector::vcmpgtuh(a, b));
-    show(rt, "vcmpgtuw", vector::vcmpgtuw(a, b));
-    show(rt, "vcmpgtsb", vector::vcmpgtsb(a, b));
-    show(rt, "vcmpgtsh", vector::vcmpgtsh(a, b));
-    show(rt, "vcmpgtsw", vector::vcmpgtsw(a, b));
-    marked(rt, "vmhaddshs", vector::vmhaddshs(a, b, c));
-    marked(rt, "vmhraddshs", vector::vmhraddshs(a, b, c));
+    show(rt, b"vcmpgtub", vector::vcmpgtub(a, b));
+    show(rt, b"vcmpgtuh", vector::vcmpgtuh(a, b));
+    show(rt, b"vcmpgtuw", vector::vcmpgtuw(a, b));
+    show(rt, b"vcmpgtsb", vector::vcmpgtsb(a, b));
+    show(rt, b"vcmpgtsh", vector::vcmpgtsh(a, b));
+    show(rt, b"vcmpgtsw", vector::vcmpgtsw(a, b));
+    marked(rt, b"vmhaddshs", vector::vmhaddshs(a, b, c));
+    marked(rt, b"vmhraddshs", vector::vmhraddshs(a, b, c));
 }
 
 fn group_10(rt: &impl Print, a: [u8; 16], b: [u8; 16], c: [u8; 16], i: u8) {
-    show(rt, "vmladduhm", vector::vmladduhm(a, b, c));
-    show(rt, "vmsumubm", vector::vmsumubm(a, b, c));
-    show(rt, "vmsummbm", vector::vmsummbm(a, b, c));
-    show(rt, "vmsumuhm", vector::vmsumuhm(a, b, c));
-    marked(rt, "vmsumuhs", vector::vmsumuhs(a, b, c));
-    show(rt, "vmsumshm", vector::vmsumshm(a, b, c));
-    marked(rt, "vmsumshs", vector::vmsumshs(a, b, c));
-    show(rt, "vsel", vector::vsel(a, b, c));
+    show(rt, b"vmladduhm", vector::vmladduhm(a, b, c));
+    show(rt, b"vmsumubm", vector::vmsumubm(a, b, c));
+    show(rt, b"vmsummbm", vector::vmsummbm(a, b, c));
+    show(rt, b"vmsumuhm", vector::vmsumuhm(a, b, c));
+    marked(rt, b"vmsumuhs", vector::vmsumuhs(a, b, c));
+    show(rt, b"vmsumshm", vector::vmsumshm(a, b, c));
+    marked(rt, b"vmsumshs", vector::vmsumshs(a, b, c));
+    show(rt, b"vsel", vector::vsel(a, b, c));
 }
 
 fn on(rt: &impl Print, a: [u8; 16], b: [u8; 16], c: [u8; 16], i: u8) {
@@ -139,21 +139,21 @@ fn on(rt: &impl Print, a: [u8; 16], b: [u8; 16], c: [u8; 16], i: u8) {
 }
 
 fn examples(rt: &impl Print) {
-    marked(rt, "vaddsbs", vector::vaddsbs([127; 16], [1; 16]));
-    marked(rt, "vaddubs", vector::vaddubs([255; 16], [0; 16]));
+    marked(rt, b"vaddsbs", vector::vaddsbs([127; 16], [1; 16]));
+    marked(rt, b"vaddubs", vector::vaddubs([255; 16], [0; 16]));
     marked(
         rt,
-        "vsubsws",
+        b"vsubsws",
         vector::vsubsws(
             [128, 0, 0, 0, 128, 0, 0, 0, 128, 0, 0, 0, 128, 0, 0, 0],
             [0, 0, 0, 1, 0, 0, 0, 1, 0, 0, 0, 1, 0, 0, 0, 1],
         ),
     );
-    show(rt, "vavgsb", vector::vavgsb([255; 16], [254; 16]));
-    show(rt, "vavgsb", vector::vavgsb([255; 16], [253; 16]));
+    show(rt, b"vavgsb", vector::vavgsb([255; 16], [254; 16]));
+    show(rt, b"vavgsb", vector::vavgsb([255; 16], [253; 16]));
     marked(
         rt,
-        "vmhaddshs",
+        b"vmhaddshs",
         vector::vmhaddshs(
             [
                 128, 0, 128, 0, 128, 0, 128, 0, 128, 0, 128, 0, 128, 0, 128, 0,
@@ -166,7 +166,7 @@ fn examples(rt: &impl Print) {
     );
     marked(
         rt,
-        "vmhaddshs",
+        b"vmhaddshs",
         vector::vmhaddshs(
             [
                 128, 0, 128, 0, 128, 0, 128, 0, 128, 0, 128, 0, 128, 0, 128, 0,
@@ -179,7 +179,7 @@ fn examples(rt: &impl Print) {
     );
     marked(
         rt,
-        "vmhraddshs",
+        b"vmhraddshs",
         vector::vmhraddshs(
             [255; 16],
             [64, 0, 64, 0, 64, 0, 64, 0, 64, 0, 64, 0, 64, 0, 64, 0],
@@ -188,7 +188,7 @@ fn examples(rt: &impl Print) {
     );
     marked(
         rt,
-        "vmhaddshs",
+        b"vmhaddshs",
         vector::vmhaddshs(
             [255; 16],
             [64, 0, 64, 0, 64, 0, 64, 0, 64, 0, 64, 0, 64, 0, 64, 0],
@@ -197,7 +197,7 @@ fn examples(rt: &impl Print) {
     );
     marked(
         rt,
-        "vmsumshs",
+        b"vmsumshs",
         vector::vmsumshs(
             [
                 0, 1, 255, 255, 0, 1, 255, 255, 0, 1, 255, 255, 0, 1, 255, 255,
@@ -210,7 +210,7 @@ fn examples(rt: &impl Print) {
     );
     show(
         rt,
-        "vsubcuw",
+        b"vsubcuw",
         vector::vsubcuw(
             [0, 0, 0, 5, 0, 0, 0, 5, 0, 0, 0, 5, 0, 0, 0, 5],
             [0, 0, 0, 5, 0, 0, 0, 5, 0, 0, 0, 5, 0, 0, 0, 5],
@@ -218,13 +218,13 @@ fn examples(rt: &impl Print) {
     );
     show(
         rt,
-        "vsubcuw",
+        b"vsubcuw",
         vector::vsubcuw(
             [0, 0, 0, 4, 0, 0, 0, 4, 0, 0, 0, 4, 0, 0, 0, 4],
             [0, 0, 0, 5, 0, 0, 0, 5, 0, 0, 0, 5, 0, 0, 0, 5],
         ),
     );
-    show(rt, "vrlb", vector::vrlb([129; 16], [9; 16]));
+    show(rt, b"vrlb", vector::vrlb([129; 16], [9; 16]));
 }
 
 fn main(rt: HostRuntime) {
