@@ -10,12 +10,12 @@ use native.Mathlib.Numerals.{add-one}
 use lib.ListN.{length, get_or, drop}
 use lib.Seq.{drop-cons, drop-length}
 use lib.Dec.{ltb}
-use borrow.Author.Tests.{lt-ltb, le-ltb, ltb-true, ltb-false}
+use borrow.Author.Tests.{lt-ltb, le-ltb, ltb-false}
 use Rattle.std.specs.Prelude.{Option, Some, None, Result, Ok, Err, SomeIff}
 use Rattle.std.specs.Char.{digit_value}
 use Rattle.reading.specs.declared.numbers.NumberError.{NumberError}
 use Rattle.reading.specs.declared.numbers.NumberError.TheVariants.{NoNumber, TooLarge}
-use Rattle.reading.specs.Numbers.{digit_of, capped_of, digits_of, is_hex}
+use Rattle.reading.specs.Numbers.{digit_of, capped_of, digits_of}
 
 module _ (base : ℕ) where
   -- a value that does not fit never does again
