@@ -245,6 +245,7 @@ module _ (code mem : List ℕ) (base place : ℕ) (m : Machine) (bytes : Bytes m
       forth f =
           record {
             written = λ e. sym (mtvscr_sat code mem base place m c e) ∙ f;
+            none = λ e. let p = carries w m.g base (length mem) carried in absurd (true≢false (ap (λ (x : Option Op). option_map_or (λ (y : Op). true) x false) (sym p.1 ∙ e)));
             other = λ op e n. let s = (off m.sat (marks_in t w h)).0 (sym (other_sat code mem base place m c (unlike op e n)) ∙ f) in (s.0, (exactly op e).0 s.1);
           }
 

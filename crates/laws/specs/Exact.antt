@@ -1,5 +1,5 @@
 -- EVERY EXACT RESULT IN RANGE: for each instruction, what document 01, "Lane rules", asks before SAT stays as it was. Assumes nothing.
-use Rattle.std.specs.Prelude.{ℕ, ◌<◌, ◌^◌, ◌≡◌, false, List, ℤ, ◌+ℤ◌, Some}
+use Rattle.std.specs.Prelude.{ℕ, ◌<◌, ◌^◌, ◌≡◌, false, List, ℤ, ◌+ℤ◌, Some, None}
 use Rattle.decode.specs.declared.Decoded.{Decoded}
 use Rattle.lanes.specs.declared.Size.{Size}
 use Rattle.encodings.specs.declared.ops.Sign.{Sign}
@@ -109,7 +109,9 @@ InRange (StoreElement w) a b c = Unit {0}
 InRange StoreLine a b c = Unit {0}
 InRange AddImmediate a b c = Unit {0}
 
--- SAT is off after a completed word: mtvscr wrote a zero; or it was off, and every exact result was in range
+-- SAT is off after a completed word: mtvscr wrote a zero; or it was off, and every exact result was in range. (A word that carries no instruction
+-- is never completed.)
 pub record Off (w : Decoded) (m : Machine) : Type 0 where
   pub written : w.op ≡ Some ToStatus → bit127 (register m.v w.b) ≡ false
+  pub none : w.op ≡ None → m.sat ≡ false
   pub other : (op : Op) → w.op ≡ Some op → (op ≡ ToStatus → ⊥) → (m.sat ≡ false) × InRange op (register m.v w.a) (register m.v w.b) (register m.v w.c)
