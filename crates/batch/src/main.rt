@@ -46,7 +46,7 @@ fn next(
     Some(())
 }
 
-// Cases to the end of the input; not more than 4,294,967,295 of them.
+// Cases to the end of the input; not more than 4,294,967,295 of them. The buffers are of the largest that there can be, and no case allocates.
 fn main(rt: HostRuntime) {
     let mut input = rt.stdin();
     let mut bytes = [0u8; 65540];

@@ -29,6 +29,7 @@ pub enum Kind {
     AddScalar,
 }
 
+// A row for each operation, as in the definition, so that a new operation is given its kind on purpose.
 pub fn kind_of(op: Op) -> Kind
     ensures { result ≡ kind_of op }
 {

@@ -33,7 +33,8 @@ fn element_at(x: u32, width: Size, memory: Region) -> Result<Element, Answer>
     })
 }
 
-// What the kind of an operation orders, or answer 7 where its item is outside the memory.
+// What the kind of an operation orders, or answer 7 where its item is outside the memory. A load and a store differ in the order alone, which
+// stands once for each, as in the definition.
 fn order_in(op: Op, w: Decoded, g: &[u32; 32], memory: Region) -> Result<Order, Answer>
     requires { InFields w }
     ensures { result ≡ order_in (kind_of op) op (address_of g.now w.a w.b) (sum_of g.now w.a w.imm) memory.base memory.length }

@@ -43,7 +43,8 @@ impl From<io::Error> for FileError {
     }
 }
 
-// The most bytes of an error's text that are told; those of the system and of std are shorter.
+// The most bytes of an error's text that are told; those of the system and of std are shorter. It needs no allocator, since an error may be that
+// there is no memory.
 const LONGEST_TEXT: usize = 320;
 
 // An error's text without the number of the system's that std puts behind it.

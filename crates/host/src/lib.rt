@@ -10,7 +10,7 @@ ghost use Rattle.host.specs.Reports.{report_of, Reports};
 use machine::{Machine, Report};
 use states::at_rest;
 
-// How a run ended, by the number of its answer; the words completed; the place of the next word.
+// How a run ended, by the number of its answer, as C has it; the words completed; the place of the next word.
 #[repr(C)]
 #[derive(Clone, Copy)]
 pub struct CardReport {

@@ -64,7 +64,7 @@ pub enum Size {
     Word,
 }
 
-// A lane of a result, and whether the exact result had to be moved to fit.
+// A lane of a result, and whether the exact result had to be moved to fit. One that was moved has a value too, so the two are no Option.
 #[derive(Clone, Copy)]
 pub struct Lane {
     pub value: u64,
@@ -136,7 +136,7 @@ pub fn of_words(v: u32x4) -> [u8; 16]
     v.to_le_bytes().swizzle(WORDS_TURNED).to_array()
 }
 
-// A vector, and the bits of a mask as its marks.
+// A vector, and the low 32 bits of a mask as its marks, which are all: a mask has a bit for each of sixteen lanes at most.
 #[inline(always)]
 pub fn with_marks(bytes: [u8; 16], mask: u64) -> Marked
     ensures { result ≡ with_marks bytes mask }
@@ -147,7 +147,7 @@ pub fn with_marks(bytes: [u8; 16], mask: u64) -> Marked
     }
 }
 
-// What a comparison says of all its lanes: every word is all ones, or every word is zero.
+// What a comparison says of all its lanes: every word is all ones, or every word is zero. The two differ in one number, and CR6 asks for both by name.
 pub fn all_true(v: [u8; 16]) -> bool
     ensures { result ≡ all_true v }
 {

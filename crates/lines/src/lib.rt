@@ -4,6 +4,9 @@
 ghost use Rattle.std.specs.Prelude.{◌≡◌, ◌+◌, ◌*◌, ◌≤◌, ◌<◌, length};
 ghost use Rattle.lines.specs.Lines.{sixteen, put, loaded_of, stored_of};
 
+// A place is counted in bytes of a register file or of a memory, and each function asks that sixteen bytes are there: lent as sixteen they would
+// have to be cut out by each caller, under the same condition.
+
 // The sixteen bytes of s from place o on.
 #[tactic(auto, unfolding(crate::specs::Lines::part))]
 pub fn load(s: &[u8], o: usize) -> [u8; 16]

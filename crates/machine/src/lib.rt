@@ -43,7 +43,8 @@ impl Machine {
         Ran { report, m: self }
     }
 
-    // The words from a place on, as far as the allowance goes, over a memory whose first byte stands at base.
+    // The words from a place on, as far as the allowance goes, over a memory whose first byte stands at base. What is run stands apart here and in
+    // `step`, as in the calls that C has.
     pub fn run(self, code: &[u32], mem: &mut [u8], base: u32, place: u32, allowance: u32) -> Ran
         ensures { Gives (run_of code.now mem.old base place allowance self) result.report result.m mem.new }
     {

@@ -24,6 +24,7 @@ fn memory(rt: &impl Print, mem: &[u8]) {
     }
 }
 
+// What is run stands apart, as the run takes it.
 pub fn tell(
     rt: &impl Print,
     err: &impl Print,

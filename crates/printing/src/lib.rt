@@ -7,6 +7,9 @@ use machine::{Machine, Report};
 use std::fmt::Display;
 use texts::{GeneralLine, ReportLine, VectorLine};
 
+// Output and errors are the two handles that a program has. They stand apart, since a struct of both would be generic in each and be taken apart
+// at every call.
+
 // A line that cannot be written is told on standard error.
 fn print(rt: &impl Print, err: &impl Print, line: impl Display + Drop) {
     if let Err(error) = rt.print(line) {

@@ -23,7 +23,7 @@ impl fmt::Display for Hex<'_> {
     }
 }
 
-// The line that tells how a run ended: its number, the words completed, the next place, SAT, NJ and CR6.
+// The line that tells how a run ended: the number of its answer, which alone is printed, the words completed, the next place, SAT, NJ and CR6.
 #[derive(Clone, Copy)]
 pub struct ReportLine {
     pub number: u32,
@@ -54,7 +54,7 @@ impl fmt::Display for ReportLine {
     }
 }
 
-// The line of a vector: its number after `v`, and its bytes in hex.
+// The line of a vector: its number after `v`, and its bytes in hex. That of a general register differs in its letter and in what it is made of.
 #[derive(Clone, Copy)]
 pub struct VectorLine {
     pub n: u32,
