@@ -7,7 +7,7 @@ use std::env::FillError;
 use std::io;
 use std::rt::Env;
 
-// The longest argument that is taken.
+// The longest argument that is taken; std fills a buffer that it is lent.
 const LONGEST: usize = 4096;
 
 // The arguments in their order, the program's own name first; None for one that is too long.

@@ -11,8 +11,8 @@ use given::{Given, args};
 use refusal::{Fault, Refusal};
 use std::alloc::Global;
 
-// The most words of a kernel: one more than a run takes, so that the run itself refuses it. They stand in an array that is lent as a slice of
-// the words that were read.
+// The most words of a kernel: one more than a run takes, so that the run itself refuses it. They stand in an array that is lent as a slice:
+// a Vec of words would be filled by the same call.
 const MOST_WORDS: usize = 16385;
 
 // Reads all that the run needs, runs, writes what it left to the files that are named, and prints it.

@@ -13,7 +13,8 @@ use registers::{Outcome, copy, on_one, on_three, on_two};
 
 // What op computes of the registers a, b and c, of its A field a and of its byte count n goes into register d; the marks.
 // Where no instruction has the width and the sign, the first operand as it is: no word carries such an operation.
-// The operation stands last, so that an instruction finds its registers where they are; the numbers stand apart, as the contract speaks of each.
+// The operation stands last, so that an instruction finds its registers where they are; the numbers stand apart, since the contract speaks of
+// each, and a struct of them would be made for this call alone.
 // A closure holds the field that it takes (`move`): one that refers to it has it stored at the head, for every word.
 #[tactic(auto, using(crate::proofs::Carried::carried), unfolding(crate::specs::Computed::computed))]
 pub fn compute(v: &mut [u8; 512], d: usize, a: usize, b: usize, c: usize, n: u8, op: Op) -> u32

@@ -24,7 +24,7 @@ pub enum Run {
     BeforeWordLane,
 }
 
-// Both go by constants, so that no word is divided by a number that is known only when it runs.
+// Both go by constants: with the place and the size of each run as numbers there would be a third table, and each run would be a pair in it.
 
 // Whether a bit of the run is set.
 pub fn any(run: Run, word: u32) -> bool

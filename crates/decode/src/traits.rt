@@ -135,7 +135,7 @@ pub fn reads_c(op: Op) -> bool
     traits_of(op).0.2
 }
 
-// Whether it reads D as a vector: the stores.
+// Whether it reads D as a vector: the stores. This and the next differ in the field of the row; a parameter for it would be no plainer.
 pub fn reads_d(op: Op) -> bool
     ensures { result ≡ reads_d op }
 {

@@ -5,7 +5,7 @@ use files::{Reason, complain, read_all, say};
 use std::alloc::Global;
 use std::io;
 
-// The most words that a run takes.
+// The most words that a run takes. They stand in an array that is lent as a slice: a Vec of words would be filled by the same call.
 const MOST_WORDS: usize = 16384;
 
 // Standard input, with a byte more than the most that is taken, so that a longer input shows.

@@ -40,7 +40,7 @@ pub extern "C" fn card_new() -> Machine
     at_rest()
 }
 
-// The words from a place on, as far as the allowance goes, over a memory whose first byte stands at base.
+// The words from a place on, as far as the allowance goes, over a memory whose first byte stands at base; what is run stands apart, as in C.
 #[unsafe(no_mangle)]
 pub extern "C" fn card_run(
     m: &mut Machine,

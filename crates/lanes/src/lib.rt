@@ -7,7 +7,8 @@ ghost use Rattle.lanes.specs.Summary.{all_true, none_true};
 
 use std::simd::prelude::*;
 
-// The operations of the instructions on lanes, in the order of document 01, "Encodings". U and S: the lanes are unsigned, signed.
+// The operations of the instructions on lanes, in the order of document 01, "Encodings". U and S: the lanes are unsigned, signed; the sign is part
+// of the name, as in the definitions.
 #[derive(Clone, Copy)]
 pub enum Op {
     AddModulo,
@@ -79,7 +80,7 @@ pub struct Operands {
     pub z: u64,
 }
 
-// A vector, with a mark for each lane that was clipped: bit i is lane i, and lane 0 is the leftmost.
+// A vector, with a mark for each lane that was clipped: bit i is lane i, and lane 0 is the leftmost. Bytes and marks are both there at once.
 #[derive(Clone, Copy)]
 pub struct Marked {
     pub bytes: [u8; 16],

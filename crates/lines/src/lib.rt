@@ -27,6 +27,8 @@ pub fn store(s: &mut [u8], o: usize, x: [u8; 16])
     s[o..o + 16].copy_from_slice(&x);
 }
 
+// Line, place and length of an element stand apart: the type that holds them is control's, and this crate is below it.
+
 // An element load: of the line of s at place o, the n bytes at place e, where they stand; the other bytes are zero.
 pub fn load_element(s: &[u8], o: usize, e: usize, n: usize) -> [u8; 16]
     requires { (o + 16 ≤ length s.now) × (e + n ≤ 16) }

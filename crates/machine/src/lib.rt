@@ -12,7 +12,8 @@ use flags::Flags;
 pub use walk::Report;
 use walk::steps;
 
-// Vector n is bytes 16 n to 16 n + 15 of v. CR6 is a number of four bits. The layout is C's, so that hosts can keep one.
+// Vector n is bytes 16 n to 16 n + 15 of v. CR6 is a number of four bits. The layout is C's, so that hosts can keep one; the header and the
+// definitions name nj, sat and cr6 as the machine's own, so they go to `Flags` and back field by field.
 #[repr(C)]
 #[derive(Clone, Copy)]
 pub struct Machine {

@@ -1,4 +1,5 @@
-// The loop of a run. The machine is lent in parts, so that no word copies it.
+// The loop of a run. The machine is lent in parts, so that no word copies it; where the memory lies is said anew for each word, of the memory
+// as it is lent.
 ghost use Rattle.std.specs.Prelude.{true, ◌≡◌, ◌≤◌, length};
 ghost use Rattle.control.specs.Addresses.{well_placed};
 ghost use Rattle.machine.specs.Runs.{machine_of, walked_of, starts, runs, Gives};

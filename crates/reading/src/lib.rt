@@ -7,7 +7,7 @@ ghost use Rattle.std.specs.Prelude.{IfSome};
 ghost use Rattle.reading.specs.Words.{Fills};
 ghost use Rattle.lines.specs.Lines.{Counts};
 
-// Bytes as words, the most significant byte first, at the start of code, and how many. It refuses a length that is no multiple of 4,
+// Bytes as words, the most significant byte first, at the start of code, and how many; a word has its place by its number. It refuses a length that is no multiple of 4,
 // and more words than code has places; code is then as it was.
 pub fn words(bytes: &[u8], code: &mut [u32]) -> Option<usize>
     ensures fills { Fills bytes.now code.old result code.new }

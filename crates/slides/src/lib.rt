@@ -37,6 +37,7 @@ fn between_zeros(v: [u8; 16], k: usize) -> [u8; 16]
     u8x16::from_array(v).swizzle_dyn(places).to_array()
 }
 
+// The two differ in the place that they read from.
 pub fn vslo(a: [u8; 16], b: [u8; 16]) -> [u8; 16]
     ensures { result ≡ octets_left a b }
 {

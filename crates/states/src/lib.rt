@@ -69,6 +69,8 @@ fn taken(bytes: &[u8]) -> Machine
     }
 }
 
+// NJ, SAT and CR6 go field by field, as in the crate `machine`.
+
 // The machine of 660 bytes; any other number of them is refused. Bits that stand for nothing are not looked at.
 #[tactic(auto, unfolding(crate::specs::States::loaded_of))]
 pub fn machine_of(bytes: &[u8]) -> Option<Machine>

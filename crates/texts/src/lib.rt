@@ -86,7 +86,7 @@ impl fmt::Display for GeneralLine {
     }
 }
 
-// The bytes of words, the most significant first.
+// The bytes of words, the most significant first; a word has its place by its number.
 pub fn put_words(words: &[u32], out: &mut [u8])
     requires { length out.old ≡ 4 * length words.now }
     ensures { out.new ≡ word_bytes words.now }

@@ -81,7 +81,7 @@ pub fn sum_of_words(x: u32x4, y: u32x4) -> Marked
     with_marks(of_words(out.select(end, sum)), out.to_bitmask())
 }
 
-// A multiply lane takes the exact sum of its products and c reduced to the lane: products and sums of products wrap, and so does c when it is added.
+// (Two impls, for the two types of lanes; the operators are those of each.) A multiply lane takes the exact sum of its products and c reduced to the lane: products and sums of products wrap, and so does c when it is added.
 pub trait MultiplyLane: Copy {
     ghost modulo: { Self → Self → Self };
 
