@@ -184,3 +184,20 @@ pub fn write_whole<R: Files + RandomSource>(
     let part = part_name(rt, name, alloc)?;
     Ok(put_beside(rt, part.as_str(), name, bytes)?)
 }
+
+#[cfg(test)]
+mod tests {
+    use super::*;
+    use std::test::Fail;
+
+    // That there is memory for it, no contract says.
+    #[test]
+    fn reads_to_the_end_or_to_the_limit(rt: HostRuntime) -> Result<(), Fail> {
+        let mut input = Cursor::new(*b"kernel");
+        let start = read_all(&mut input, 4, rt.alloc())?;
+        assert_eq!(rt; start.as_slice(), b"kern".as_slice());
+        let rest = read_all(&mut input, 4, rt.alloc())?;
+        assert_eq!(rt; rest.as_slice(), b"el".as_slice());
+        Ok(())
+    }
+}
