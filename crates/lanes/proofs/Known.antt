@@ -7,7 +7,7 @@ use mir.Val.{hbits}
 use mir.Syntax.{Width}
 use mir.ValLaws.{to_z-of_z, to_z_pos}
 use Rattle.lanes.specs.Integer.{signed}
-use Rattle.lanes.proofs.Bounds.{mag-add, mag-mul}
+use Rattle.lanes.proofs.Bounds.{mag-add, mag-sub, mag-mul}
 
 pub record Known (A a : ℤ) (k : ℕ) : Type 0 where
   pub is : A ≡ a
@@ -44,6 +44,9 @@ lane W k {m} {x} e h l t = kept W (record { is = e; small = omega (arith, size m
 module _ {A B a b : ℤ} {j k : ℕ} (e : Known A a j) (f : Known B b k) where
   pub plus : Known (A +ℤ B) (a +ℤ b) (j + k)
   plus = record { is = rw (e.is, f.is); small = omega (arith, mag-add a b, e.small, f.small) }
+
+  pub minus : Known (A -ℤ B) (a -ℤ b) (j + k + 1)
+  minus = record { is = rw (e.is, f.is); small = omega (arith, mag-sub a b, e.small, f.small) }
 
   pub times : Known (A *ℤ B) (a *ℤ b) (j * k + 1)
   times = record { is = rw (e.is, f.is); small = omega (arith, mag-mul a b, mul-le-mul e.small f.small) }

@@ -1,6 +1,6 @@
 -- Two's complement without a test: to read, add half of m, take the bits, subtract half of m; to write, add a multiple of m first.
 -- Assumes nothing.
-use Rattle.std.proofs.Common.{◌≡◌, ℕ, zero, suc, ◌+◌, ◌-◌, ◌*◌, ◌/◌, ◌%◌, ◌<◌, ◌≤◌, Bool, true, false, cond, ltb, ℤ, pos, negsuc, ◌-ℤ◌, sym, refl, ap, ◌∙◌, not-suc-le-zero, mod-lt, mod-eq_of_lt, mul_comm, div-lt_iff_lt-mul, mul-suc, mul-add, arith, ltb-false, ltb-true, le-ltb, lt-ltb}
+use Rattle.std.proofs.Common.{◌≡◌, ℕ, zero, suc, ◌+◌, ◌-◌, ◌*◌, ◌/◌, ◌%◌, ◌<◌, ◌≤◌, Bool, true, false, cond, ltb, ℤ, pos, negsuc, ◌+ℤ◌, ◌-ℤ◌, sym, refl, ap, ◌∙◌, not-suc-le-zero, mod-lt, mod-eq_of_lt, mul_comm, div-lt_iff_lt-mul, mul-suc, mul-add, arith, ltb-false, ltb-true, le-ltb, lt-ltb}
 use native.Mathlib.Nat.{mod-eq-sub-mod, add-mul-mod_self_left, div-add-mod}
 use lib.Signed.{mag}
 use Rattle.lanes.specs.Integer.{signed, bits_of}
@@ -34,6 +34,14 @@ module _ (m x : ℕ) (h : x < m) (even : m ≡ m / 2 + m / 2) where
 abbrev pub lifted : ℕ → ℤ → ℕ
 lifted k (pos n) = n + k
 lifted k (negsuc n) = k - suc n
+
+pub lift : (k : ℕ) (z : ℤ) → mag z < k → z +ℤ pos k ≡ pos (lifted k z)
+lift k (pos n) h = refl
+lift k (negsuc n) h = rw (le-ltb k (suc n) (omega arith))
+
+pub lifted-lt : (k : ℕ) (z : ℤ) → mag z < k → lifted k z < k + k
+lifted-lt k (pos n) h = omega arith
+lifted-lt k (negsuc n) h = omega arith
 
 -- its bits are those of z, where a multiple of m was added
 module _ (m k q : ℕ) (some : 0 < m) (multiple : k ≡ m * q) where

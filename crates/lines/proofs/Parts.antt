@@ -7,7 +7,7 @@ use native.Mathlib.Omega.{arith}
 use native.Mathlib.Nat.{add-zero}
 use lib.ListN.{length, get_or, set, take, drop, length-drop, get_or-replicate}
 use lib.Seq.{length-take-le, take-append_seam, take-set-le, drop-set-lt, drop-set-add, drop_at, get_or-take, get_or-drop, sets-eq, length-sets}
-use Rattle.lines.specs.Lines.{part, sixteen, put, zeros, loaded_of, stored_of}
+use Rattle.lines.specs.Lines.{part, sixteen, put, zeros, loaded_of, stored_of, Counts}
 
 -- what is put keeps the length, wherever it is put
 pub put_long : (l : List ℕ) (o : ℕ) (x : List ℕ) → length (put l o x) ≡ length l
@@ -100,3 +100,7 @@ module _ (l : List ℕ) (o e n : ℕ) (in_memory : o + 16 ≤ length l) (in_line
   loaded_after k h b =
       let long = part_long l (o + e) n (omega arith) in
       at_after zeros e (part l (o + e) n) k (omega arith) ∙ get_or-replicate 16 k 0 0 b
+
+-- a number that counts elements at the start
+pub counts : (n : ℕ) (l : List ℕ) → n ≤ length l → Counts n l
+counts n l h = (h, sym (length-take-le n l h))

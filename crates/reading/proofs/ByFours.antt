@@ -1,6 +1,6 @@
 -- Words of bytes, four by four: how many there are, and the one at each place.
 -- Assumes nothing.
-use Rattle.std.proofs.Common.{ℕ, zero, suc, ◌+◌, ◌*◌, ◌/◌, ◌%◌, ◌≤◌, ◌<◌, ◌≡◌, refl, sym, ap, ◌∙◌, true, List, [], ◌∷◌, ◌++◌, Some, arith, length, take, drop}
+use Rattle.std.proofs.Common.{ℕ, zero, suc, ◌+◌, ◌*◌, ◌/◌, ◌%◌, ◌≤◌, ◌<◌, ◌≡◌, refl, sym, ap, ◌∙◌, true, false, List, [], ◌∷◌, ◌++◌, Some, None, arith, length, take, drop}
 use borrow.Author.Tests.{eq-eqb, le-leb}
 use native.Mathlib.Numerals.{add-one}
 use lib.ListN.{get_or, set}
@@ -34,7 +34,7 @@ pub turn : (d : List ℕ) (at : ℕ) (w x : List ℕ) (i v : ℕ) → at + i < l
     → set x (at + i) v ≡ paste d at w (i + 1)
 turn d at w x i v h k e f = rw (e, f, add-one) (paste-suc d at w i 0 h k)
 
--- what a reading leaves, once n words have their places
+-- what a reading leaves, once n words have their places; and a refusal
 pub taken : (b d x : List ℕ) (n : ℕ) → length b % 4 ≡ 0 → n ≡ length b / 4 → n ≤ length d → x ≡ paste d 0 (words_of b) n → Fills b d (Some n) x
 unfolding put
 taken b d x n u m h e =
@@ -47,3 +47,6 @@ taken b d x n u m h e =
     ∙ ap (λ (y : List ℕ). y ++ drop (0 + length w) d) (take_all (length w) w (omega arith))
     ∙ sym (sets-eq w d 0 (omega arith)) in
     record { count = rw (all, m) refl; code = rw all p }
+
+pub refused : (b d : List ℕ) → whole b d ≡ false → Fills b d None d
+refused b d w = record { count = rw w refl; code = rw w refl }

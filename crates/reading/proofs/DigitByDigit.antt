@@ -10,12 +10,12 @@ use native.Mathlib.Numerals.{add-one}
 use lib.ListN.{length, get_or, drop}
 use lib.Seq.{drop-cons, drop-length}
 use lib.Dec.{ltb}
-use borrow.Author.Tests.{lt-ltb, le-ltb, ltb-false}
+use borrow.Author.Tests.{lt-ltb, le-ltb, ltb-true, ltb-false}
 use Rattle.std.specs.Prelude.{Option, Some, None, Result, Ok, Err, SomeIff}
 use Rattle.std.specs.Char.{digit_value}
 use Rattle.reading.specs.declared.numbers.NumberError.{NumberError}
 use Rattle.reading.specs.declared.numbers.NumberError.TheVariants.{NoNumber, TooLarge}
-use Rattle.reading.specs.Numbers.{digit_of, capped_of, digits_of}
+use Rattle.reading.specs.Numbers.{digit_of, capped_of, digits_of, is_hex}
 
 module _ (base : ℕ) where
   -- a value that does not fit never does again
@@ -66,3 +66,11 @@ fits c h = grind arith
 pub same_digit : (c b : ℕ) (r : Option ℕ) → b ≤ 16 → SomeIff r (digit_value c < b) (digit_value c) → SomeIff r (digit_of c < b) (digit_of c)
 same_digit c b None h f = λ (k : digit_of c < b). f (let e = fits c (omega arith) in omega arith)
 same_digit c b (Some x) h p = let e = below c (omega (arith, p.0)) in (omega (arith, p.0), p.1 ∙ e)
+
+-- a text that begins with `0x` has two characters
+both : (b c : Bool) → cond b c false ≡ true → b ≡ true
+both true c e = refl
+both false c e = e
+
+pub hex_long : (t : List ℕ) → is_hex t ≡ true → 2 ≤ length t
+hex_long t e = ltb-true 1 (length t) (both (ltb 1 (length t)) _ e)
