@@ -2,15 +2,26 @@
 #![tactic(auto)]
 
 ghost use Rattle.std.specs.Prelude.{◌≡◌, ◌%◌, ◌<◌, ◌≤◌};
-ghost use Rattle.slides.specs.Slid.{slid, zeros, octets, octets_left, octets_right};
+ghost use Rattle.slides.specs.Slid.{slid, octets, octets_left, octets_right};
 
-use moves::{lvsl, vperm};
 use std::simd::prelude::*;
+
+// Sixteen bytes of a followed by b, from byte k on: the two stand side by side, and are read from there.
+#[inline(always)]
+fn slide(a: [u8; 16], b: [u8; 16], k: usize) -> [u8; 16]
+    requires { k ≤ 16 }
+    ensures { result ≡ slid a b k }
+{
+    let mut both = [0u8; 32];
+    both[..16].copy_from_slice(&a);
+    both[16..].copy_from_slice(&b);
+    u8x16::from_slice(&both[k..]).to_array()
+}
 
 pub fn vsldoi(a: [u8; 16], b: [u8; 16], count: u8) -> [u8; 16]
     ensures { result ≡ slid a b (count % 16) }
 {
-    vperm(a, b, lvsl(count))
+    slide(a, b, (count % 16) as usize)
 }
 
 // The number of bytes in bits 121-124 of b.
@@ -20,32 +31,15 @@ fn octets(b: [u8; 16]) -> usize
     (b[15] / 8 % 16) as usize
 }
 
-// The places of sixteen bytes between zeros, where `swizzle_dyn` gives a zero for 128.
-static PLACES: [u8; 48] = [
-    128, 128, 128, 128, 128, 128, 128, 128, 128, 128, 128, 128, 128, 128, 128, 128, 0, 1, 2, 3, 4,
-    5, 6, 7, 8, 9, 10, 11, 12, 13, 14, 15, 128, 128, 128, 128, 128, 128, 128, 128, 128, 128, 128,
-    128, 128, 128, 128, 128,
-];
-
-// Sixteen bytes from byte k on, where v stands between two vectors of zeros.
-#[inline(always)]
-fn between_zeros(v: [u8; 16], k: usize) -> [u8; 16]
-    requires { k ≤ 32 }
-    ensures { result ≡ slid zeros v k }
-{
-    let places = u8x16::from_slice(&PLACES[k..]);
-    u8x16::from_array(v).swizzle_dyn(places).to_array()
-}
-
-// The two differ in the place that they read from.
+// The two differ in the side on which the zeros stand.
 pub fn vslo(a: [u8; 16], b: [u8; 16]) -> [u8; 16]
     ensures { result ≡ octets_left a b }
 {
-    between_zeros(a, 16 + octets(b))
+    slide(a, [0; 16], octets(b))
 }
 
 pub fn vsro(a: [u8; 16], b: [u8; 16]) -> [u8; 16]
     ensures { result ≡ octets_right a b }
 {
-    between_zeros(a, 16 - octets(b))
+    slide([0; 16], a, 16 - octets(b))
 }
