@@ -1,6 +1,7 @@
 -- What a vector instruction computes of its operands a, b and c, of its A field i and of its byte count n; in the order of document 01, "Encodings".
 -- An operation that computes no vector of them leaves the first operand as it is. Assumes nothing.
-use Rattle.std.specs.Prelude.{List, ℕ, ◌%◌}
+use Rattle.std.specs.Prelude.{List, ℕ, ◌%◌, Option}
+use Rattle.std.specs.Option.{option_map_or}
 use Rattle.encodings.specs.declared.ops.Op.{Op}
 use Rattle.encodings.specs.declared.ops.Op.TheVariants.{AddMod, AddCarry, AddSat, SubMod, SubCarry, SubSat, Max, Min, Average, Rotate, ShiftLeft, ShiftRight, ShiftAlgebraic, ShiftWholeLeft, ShiftWholeRight, ShiftBytesLeft, ShiftBytesRight, And, AndNot, Or, Xor, Nor, FromStatus, ToStatus, MulOdd, MulEven, SumQuarter, SumHalf, SumAll, MergeHigh, MergeLow, Splat, SplatImmediate, PackMod, PackSat, UnpackHigh, UnpackLow, CompareEqual, CompareGreater, MulHighAdd, MulHighRoundAdd, MulLowAdd, MulSum, MulSumMixed, MulSumSat, Select, Permute, ShiftPair, LoadShiftLeft, LoadShiftRight, LoadElement, LoadLine, StoreElement, StoreLine, AddImmediate}
 use Rattle.lanes.specs.declared.Marked.{Marked}
@@ -70,3 +71,7 @@ computed LoadLine a b c i n = unclipped a
 computed (StoreElement w) a b c i n = unclipped a
 computed StoreLine a b c i n = unclipped a
 computed AddImmediate a b c i n = unclipped a
+
+-- the same of what a word carries: no instruction leaves the first operand as it is
+abbrev pub computed_in : Option Op → List ℕ → List ℕ → List ℕ → ℕ → ℕ → Marked
+computed_in o a b c i n = option_map_or (λ p. computed p a b c i n) o (unclipped a)

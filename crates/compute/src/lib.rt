@@ -5,19 +5,16 @@ ghost use Rattle.std.specs.Prelude.{◌≡◌, ◌<◌, ◌%◌};
 ghost use Rattle.moves.specs.Chosen.{splat};
 ghost use Rattle.slides.specs.Slid.{slid};
 ghost use Rattle.registers.specs.Registers.{at, Leaves};
-ghost use Rattle.compute.specs.Computed.{computed};
+ghost use Rattle.compute.specs.Computed.{computed, computed_in};
 
 use encodings::ops::{Op, Sign};
 use lanes::Size;
 use registers::{Outcome, copy, on_one, on_three, on_two};
 
-// What op computes of the registers a, b and c, of its A field a and of its byte count n goes into register d; the marks.
-// Where no instruction has the width and the sign, the first operand as it is: no word carries such an operation.
-// The operation stands last, so that an instruction finds its registers where they are; the numbers stand apart, since the contract speaks of
-// each, and a struct of them would be made for this call alone.
+// The instruction that op is. Where none has the width and the sign, the first operand as it is: no word carries such an operation.
 // A closure holds the field that it takes (`move`): one that refers to it has it stored at the head, for every word.
 #[tactic(auto, using(crate::proofs::Carried::carried), unfolding(crate::specs::Computed::computed))]
-pub fn compute(v: &mut [u8; 512], d: usize, a: usize, b: usize, c: usize, n: u8, op: Op) -> u32
+fn chosen(v: &mut [u8; 512], d: usize, a: usize, b: usize, c: usize, n: u8, op: Op) -> u32
     requires { (d < 32) × (a < 32) × (b < 32) × (c < 32) }
     ensures { Leaves (computed op (at v.old a) (at v.old b) (at v.old c) a n) d v.old v.new result }
 {
@@ -308,5 +305,27 @@ pub fn compute(v: &mut [u8; 512], d: usize, a: usize, b: usize, c: usize, n: u8,
         Op::StoreElement(_) => copy(v, d, a),
         Op::StoreLine => copy(v, d, a),
         Op::AddImmediate => copy(v, d, a),
+    }
+}
+
+// What op computes of the registers a, b and c, of its A field a and of its byte count n goes into register d; the marks.
+// Where there is no instruction, the first operand as it is.
+// The operation stands last, so that an instruction finds its registers where they are; the numbers stand apart, since the contract speaks of
+// each, and a struct of them would be made for this call alone.
+pub fn compute(
+    v: &mut [u8; 512],
+    d: usize,
+    a: usize,
+    b: usize,
+    c: usize,
+    n: u8,
+    op: Option<Op>,
+) -> u32
+    requires { (d < 32) × (a < 32) × (b < 32) × (c < 32) }
+    ensures { Leaves (computed_in op (at v.old a) (at v.old b) (at v.old c) a n) d v.old v.new result }
+{
+    match op {
+        Some(op) => chosen(v, d, a, b, c, n, op),
+        None => copy(v, d, a),
     }
 }

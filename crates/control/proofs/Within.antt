@@ -18,7 +18,7 @@ use Rattle.control.specs.declared.orders.Order.TheVariants.{ReadLine, WriteLine,
 use Rattle.control.specs.Addresses.{address_of, sum_of, aligned, item_of, well_placed}
 use Rattle.lanes.specs.Numbers.{bytes_in}
 use Rattle.control.specs.Kinds.{kind_of}
-use Rattle.control.specs.Orders.{reached, element, order_in, order_for, order_of, IsLine, IsElement, Reaches}
+use Rattle.control.specs.Orders.{reached, element, order_in, order_for, order_of, IsLine, IsElement, Reaches, Reaching}
 
 -- what holds of both holds of what is picked
 picked : {A : Type 0} (P : A → Type 0) (b : Bool) {x y : A} → P x → P y → P (pick b x y)
@@ -60,11 +60,6 @@ found e base len = outer (leb base e) refl
     outer : (b : Bool) → leb base e ≡ b → InMemory e base len (pick b (pick (ltb e (base + len)) (Some (e - base)) None) None)
     outer true h = inner (ltb e (base + len)) (leb-true base e h) refl
     outer false h = tt
-
--- what an order names in the memory is there; a refusal names nothing
-abbrev pub Reaching : Result Order Answer → ℕ → Type 0
-Reaching (Ok o) len = Reaches o len
-Reaching (Err a) len = Unit {0}
 
 module _ (base len : ℕ) (p : Placed base len) where
   is_line : (k x : ℕ) → k + base ≡ aligned 16 x → k < len → IsLine k len

@@ -95,6 +95,11 @@ Reaches (WriteLine at) len = IsLine at len
 Reaches (ReadElement e) len = IsElement e len
 Reaches (WriteElement e) len = IsElement e len
 
+-- the same of what control gave: a refusal names nothing
+abbrev pub Reaching : Result Order Answer → ℕ → Type 0
+Reaching (Ok o) len = Reaches o len
+Reaching (Err a) len = Unit {0}
+
 -- what control leaves: the order or the answer, and the general registers after it
 pub record Controls (w : Decoded) (g : List ℕ) (base len : ℕ) (r : Result Order Answer) (after : List ℕ) : Type 0 where
   pub order : r ≡ order_of w g base len

@@ -1,7 +1,8 @@
 -- What holds of each operation. Position-bound are the thirty-nine of document 01, "Position-bound instructions"; those that can clip are the
 -- 27 of its "Lane rules"; the reserved bits are those of its "Encodings".
 -- Assumes nothing.
-use Rattle.std.specs.Prelude.{Bool, true, false}
+use Rattle.std.specs.Prelude.{Bool, true, false, Option}
+use Rattle.std.specs.Option.{option_map_or}
 use Rattle.decode.specs.declared.traits.Traits.{Traits}
 use Rattle.decode.specs.declared.traits.Vectors.{Vectors}
 use Rattle.decode.specs.declared.reserved.Run.{Run}
@@ -120,6 +121,10 @@ traits_of LoadLine = (target, exact, free, Last)
 traits_of (StoreElement w) = (stored, exact, bound, Last)
 traits_of StoreLine = (stored, exact, free, Last)
 traits_of AddImmediate = (none, exact, free, Empty)
+
+-- the row of what a word carries: no instruction has no vector, does not clip, is not position-bound and has no reserved bit
+abbrev pub row_of : Option Op → Traits
+row_of o = option_map_or traits_of o (none, exact, free, Empty)
 
 abbrev pub reads_a : Op → Bool
 reads_a o = (traits_of o).0.0

@@ -5,11 +5,11 @@ pub mod reserved;
 pub mod traits;
 
 ghost use Rattle.std.specs.Prelude.{◌≡◌};
-ghost use Rattle.decode.specs.Decode.{run_in, decode_of, cleared_of};
+ghost use Rattle.decode.specs.Decode.{decode_of, cleared_of};
 
 use encodings::operation;
 use encodings::ops::Op;
-use reserved::{Run, any, clear};
+use reserved::{any, clear};
 use traits::reserved;
 
 // A word taken apart. That its fields have their sizes is a clause of who takes it (`InFields`) and no type of its own: a struct with an
@@ -33,18 +33,11 @@ pub struct Decoded {
     pub imm: u32,
 }
 
-// The reserved bits of an operation; none where there is no instruction.
-fn run_of(op: Option<Op>) -> Run
-    ensures { result ≡ run_in op }
-{
-    op.map_or(Run::Empty, reserved)
-}
-
 pub fn decode(word: u32) -> Decoded
     ensures { result ≡ decode_of word }
 {
     let op = operation(word);
-    let stray = any(run_of(op), word);
+    let stray = any(reserved(op), word);
     let d = word / 2097152 % 32;
     let a = word / 65536 % 32;
     let b = word / 2048 % 32;
@@ -67,5 +60,5 @@ pub fn decode(word: u32) -> Decoded
 pub fn cleared(word: u32) -> u32
     ensures { result ≡ cleared_of word }
 {
-    clear(run_of(operation(word)), word)
+    clear(reserved(operation(word)), word)
 }

@@ -1,6 +1,10 @@
 // What holds of an operation: the vectors that it reads and writes, whether it can clip, whether it is position-bound, its reserved bits.
-ghost use Rattle.std.specs.Prelude.{◌≡◌};
-ghost use Rattle.decode.specs.Traits.{traits_of, before_lane, reads_a, reads_b, reads_c, reads_d, writes_d, can_clip, position_bound, reserved_of};
+// Each is asked of what a word carries: where that is no instruction, no vector is read or written, it does not clip, it is not
+// position-bound, and no bit is reserved.
+ghost use Rattle.std.specs.Prelude.{◌≡◌, false};
+ghost use Rattle.std.specs.Option.{option_map_or};
+ghost use Rattle.decode.specs.Decode.{run_in};
+ghost use Rattle.decode.specs.Traits.{traits_of, row_of, before_lane, reads_a, reads_b, reads_c, reads_d, writes_d, can_clip, position_bound};
 
 use crate::reserved::Run;
 use encodings::ops::Op;
@@ -40,6 +44,9 @@ const FREE: bool = false;
 // The vectors, whether it can set SAT by clipping, whether it is position-bound, its reserved bits.
 #[derive(Clone, Copy)]
 struct Traits(Vectors, bool, bool, Run);
+
+// No instruction.
+const NOTHING: Traits = Traits(NONE, EXACT, FREE, Run::Empty);
 
 // The bits of A before a splat's lane number.
 fn before_lane(width: Size) -> Run
@@ -114,58 +121,65 @@ fn traits_of(op: Op) -> Traits
     }
 }
 
-// Whether it reads A as a vector.
-pub fn reads_a(op: Op) -> bool
-    ensures { result ≡ reads_a op }
+// The row of what a word carries.
+fn row(op: Option<Op>) -> Traits
+    ensures { result ≡ row_of op }
 {
-    traits_of(op).0.0
+    op.map_or(NOTHING, traits_of)
+}
+
+// Whether it reads A as a vector.
+pub fn reads_a(op: Option<Op>) -> bool
+    ensures { result ≡ option_map_or reads_a op false }
+{
+    row(op).0.0
 }
 
 // Whether it reads B as a vector.
-pub fn reads_b(op: Op) -> bool
-    ensures { result ≡ reads_b op }
+pub fn reads_b(op: Option<Op>) -> bool
+    ensures { result ≡ option_map_or reads_b op false }
 {
-    traits_of(op).0.1
+    row(op).0.1
 }
 
 // Whether it reads C as a vector.
-pub fn reads_c(op: Op) -> bool
-    ensures { result ≡ reads_c op }
+pub fn reads_c(op: Option<Op>) -> bool
+    ensures { result ≡ option_map_or reads_c op false }
 {
-    traits_of(op).0.2
+    row(op).0.2
 }
 
 // Whether it reads D as a vector: the stores. This and the next differ in the field of the row; a parameter for it would be no plainer.
-pub fn reads_d(op: Op) -> bool
-    ensures { result ≡ reads_d op }
+pub fn reads_d(op: Option<Op>) -> bool
+    ensures { result ≡ option_map_or reads_d op false }
 {
-    traits_of(op).0.3
+    row(op).0.3
 }
 
 // Whether it writes D as a vector.
-pub fn writes_d(op: Op) -> bool
-    ensures { result ≡ writes_d op }
+pub fn writes_d(op: Option<Op>) -> bool
+    ensures { result ≡ option_map_or writes_d op false }
 {
-    traits_of(op).0.4
+    row(op).0.4
 }
 
 // Whether it can set SAT by clipping.
-pub fn can_clip(op: Op) -> bool
-    ensures { result ≡ can_clip op }
+pub fn can_clip(op: Option<Op>) -> bool
+    ensures { result ≡ option_map_or can_clip op false }
 {
-    traits_of(op).1
+    row(op).1
 }
 
 // Whether it is position-bound.
-pub fn position_bound(op: Op) -> bool
-    ensures { result ≡ position_bound op }
+pub fn position_bound(op: Option<Op>) -> bool
+    ensures { result ≡ option_map_or position_bound op false }
 {
-    traits_of(op).2
+    row(op).2
 }
 
 // Its reserved bits.
-pub fn reserved(op: Op) -> Run
-    ensures { result ≡ reserved_of op }
+pub fn reserved(op: Option<Op>) -> Run
+    ensures { result ≡ run_in op }
 {
-    traits_of(op).3
+    row(op).3
 }

@@ -99,7 +99,7 @@ impl fmt::Display for Flag {
     }
 }
 
-fn traits(rt: &impl Print, op: Op) {
+fn traits(rt: &impl Print, op: Option<Op>) {
     let flags = [
         Flag(" reads a", decode::traits::reads_a(op)),
         Flag(" reads b", decode::traits::reads_b(op)),
@@ -124,9 +124,7 @@ fn line(rt: &impl Print, word: u32) {
     let _ = print!(rt; " d{} a{} b{} c{}", got.d, got.a, got.b, got.c);
     let _ = print!(rt; " count{} imm{}", got.count, got.imm);
     let _ = print!(rt; "{}{}", Flag(" rc", got.rc), Flag(" stray", got.stray));
-    if let Some(op) = got.op {
-        traits(rt, op);
-    }
+    traits(rt, got.op);
     let _ = println!(rt; " cleared {:08x}", decode::cleared(word));
 }
 

@@ -1,11 +1,12 @@
 -- DATA: what an order does to the vectors, the flags and the memory. It sees no general register and no address. Assumes nothing.
-use Rattle.std.specs.Prelude.{ℕ, ◌*◌, ◌&&◌, List}
+use Rattle.std.specs.Prelude.{ℕ, ◌*◌, ◌&&◌, List, Result, Ok, Err}
 use Rattle.encodings.specs.declared.ops.Op.{Op}
 use Rattle.decode.specs.declared.Decoded.{Decoded}
 use Rattle.lanes.specs.declared.Marked.{Marked}
 use Rattle.lines.specs.Lines.{sixteen, put, loaded_of, stored_of}
 use Rattle.moves.specs.Chosen.{pattern_left, pattern_right}
 use Rattle.compute.specs.Computed.{computed}
+use Rattle.control.specs.declared.answers.Answer.{Answer}
 use Rattle.control.specs.declared.orders.Order.{Order}
 use Rattle.control.specs.declared.orders.Order.TheVariants.{SetGeneral, Compute, ReadStatus, WriteStatus, PatternLeft, PatternRight, ReadLine, WriteLine, ReadElement, WriteElement}
 use Rattle.flags.specs.declared.Flags.{Flags}
@@ -47,3 +48,8 @@ effect_of (ReadLine at) w h = with_register h w.d (sixteen h.mem at)
 effect_of (WriteLine at) w h = held_of h.v h.flags (put h.mem at (register h.v w.d))
 effect_of (ReadElement e) w h = with_register h w.d (loaded_of h.mem e.at e.place e.bytes)
 effect_of (WriteElement e) w h = held_of h.v h.flags (stored_of h.mem e.at e.place e.bytes (register h.v w.d))
+
+-- the same of what control gave: a refusal leaves all as it was
+abbrev pub effect_after : Result Order Answer → Decoded → Held → Held
+effect_after (Ok o) w h = effect_of o w h
+effect_after (Err a) w h = h

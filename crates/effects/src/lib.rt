@@ -3,10 +3,11 @@
 
 ghost use Rattle.std.specs.Prelude.{◌≡◌, ◌*◌, length};
 ghost use Rattle.lines.specs.Lines.{put};
-ghost use Rattle.control.specs.Orders.{InFields, Reaches};
-ghost use Rattle.effects.specs.Effects.{computed_of, flags_after, held_of, effect_of};
+ghost use Rattle.control.specs.Orders.{InFields, Reaches, Reaching};
+ghost use Rattle.effects.specs.Effects.{computed_of, flags_after, held_of, effect_of, effect_after};
 
 use compute::compute;
+use control::answers::Answer;
 use control::orders::Order;
 use decode::Decoded;
 use encodings::ops::Op;
@@ -20,16 +21,16 @@ fn computed(op: Op, w: Decoded, v: &mut [u8; 512], flags: Flags) -> Flags
     requires { InFields w }
     ensures { (v.new ≡ put v.old (16 * w.d) (computed_of op w v.old).bytes) × (result ≡ flags_after op w (computed_of op w v.old) flags) }
 {
-    if records(op, w.rc) {
-        let marks = compute(v, w.d, w.a, w.b, w.b, w.count as u8, op);
+    if records(Some(op), w.rc) {
+        let marks = compute(v, w.d, w.a, w.b, w.b, w.count as u8, Some(op));
         return recorded(marked(flags, marks), vector(v, w.d));
     }
-    let marks = compute(v, w.d, w.a, w.b, w.c, w.count as u8, op);
+    let marks = compute(v, w.d, w.a, w.b, w.c, w.count as u8, Some(op));
     marked(flags, marks)
 }
 
 // What an order for the decoded word w does. The general registers are control's.
-pub fn effect(o: Order, w: Decoded, v: &mut [u8; 512], flags: Flags, mem: &mut [u8]) -> Flags
+fn effect_of(o: Order, w: Decoded, v: &mut [u8; 512], flags: Flags, mem: &mut [u8]) -> Flags
     requires { InFields w × Reaches o (length mem.old) }
     ensures { held_of v.new result mem.new ≡ effect_of o w (held_of v.old flags mem.old) }
 {
@@ -69,5 +70,22 @@ pub fn effect(o: Order, w: Decoded, v: &mut [u8; 512], flags: Flags, mem: &mut [
             store_element(mem, e.at, e.place, e.bytes, x);
             flags
         }
+    }
+}
+
+// What is done for the decoded word w: what it orders, and nothing where control refused it.
+pub fn effect(
+    o: Result<Order, Answer>,
+    w: Decoded,
+    v: &mut [u8; 512],
+    flags: Flags,
+    mem: &mut [u8],
+) -> Flags
+    requires { InFields w × Reaching o (length mem.old) }
+    ensures { held_of v.new result mem.new ≡ effect_after o w (held_of v.old flags mem.old) }
+{
+    match o {
+        Ok(order) => effect_of(order, w, v, flags, mem),
+        Err(_) => flags,
     }
 }

@@ -1,7 +1,8 @@
 // NJ, SAT and CR6: document 01, "Lane rules".
 #![tactic(auto)]
 
-ghost use Rattle.std.specs.Prelude.{◌≡◌, true, ◌&&◌};
+ghost use Rattle.std.specs.Prelude.{◌≡◌, true, false, ◌&&◌};
+ghost use Rattle.std.specs.Option.{option_map_or};
 ghost use Rattle.flags.specs.Flags.{compares, status_of, from_status, marked_of, summary_of, recorded_of};
 
 use encodings::ops::Op;
@@ -80,9 +81,9 @@ fn is_compare(op: Op) -> bool
     matches!(op, Op::CompareEqual(_) | Op::CompareGreater(_, _))
 }
 
-// Whether an instruction with this operation and this bit 21 sets CR6.
-pub fn records(op: Op, rc: bool) -> bool
-    ensures { result ≡ (rc && compares op) }
+// Whether a word with this operation and this bit 21 sets CR6; one that carries no instruction does not.
+pub fn records(op: Option<Op>, rc: bool) -> bool
+    ensures { result ≡ (rc && option_map_or compares op false) }
 {
-    rc && is_compare(op)
+    rc && op.is_some_and(is_compare)
 }

@@ -61,6 +61,20 @@ kind_status (PutElement w) o x s base len = reached_status (item_of (aligned (by
 kind_status PutLine o x s base len = reached_status (item_of (aligned 16 x) base len) WriteLine (λ k. refl)
 kind_status AddScalar o x s base len = refl
 
+-- an order that computes nothing, or whose operation cannot clip, marks no lane, whatever its word
+pub marks_none : (o : Order) (w : Decoded) (h : Held) → ((op : Op) → o ≡ Compute op → can_clip op ≡ false) → marks_of o w h ≡ 0
+unfolding computed_of
+marks_none (SetGeneral x) w h n = refl
+marks_none (Compute op) w h n = unmarked op (register h.v w.a) (register h.v w.b) (register h.v w.c) w.a w.count (n op refl)
+marks_none ReadStatus w h n = refl
+marks_none WriteStatus w h n = refl
+marks_none (PatternLeft s) w h n = refl
+marks_none (PatternRight s) w h n = refl
+marks_none (ReadLine at) w h n = refl
+marks_none (WriteLine at) w h n = refl
+marks_none (ReadElement x) w h n = refl
+marks_none (WriteElement x) w h n = refl
+
 module _ (w : Decoded) (g : List ℕ) (base len : ℕ) where
   -- the order of an operation, by whether a reserved bit is set
   abbrev ordered : Bool → Op → Result Order Answer
@@ -84,17 +98,17 @@ module _ (w : Decoded) (g : List ℕ) (base len : ℕ) where
       cases true h = absurd (is_ok_only h)
       cases false h = sym (ap sets h)
 
-  -- a word whose instruction cannot clip marks no lane
-  pub marks_none : (h : Held) (op : Op) → w.op ≡ Some op → can_clip op ≡ false → marks_in (order_of w g base len) w h ≡ 0
-  unfolding order_of computed_of
-  marks_none h op e n = cases w.op e w.stray
+  -- nor does a word whose instruction cannot clip
+  pub marks_none_of_word : (h : Held) (op : Op) → w.op ≡ Some op → can_clip op ≡ false → marks_in (order_of w g base len) w h ≡ 0
+  unfolding order_of
+  marks_none_of_word h op e n = cases w.op e w.stray
     where
       reached_none : (i : Option ℕ) (f : ℕ → Order) → ((k : ℕ) → marks_of (f k) w h ≡ 0) → marks_in (reached i f) w h ≡ 0
       reached_none (Some k) f z = z k
       reached_none None f z = refl
 
       kinds : (k : Kind) (o : Op) (x s : ℕ) → can_clip o ≡ false → marks_in (order_in k o x s base len) w h ≡ 0
-      kinds Vector o x s z = unmarked o (register h.v w.a) (register h.v w.b) (register h.v w.c) w.a w.count z
+      kinds Vector o x s z = marks_none (Compute o) w h (λ p e. cc)
       kinds GetStatus o x s n = refl
       kinds PutStatus o x s n = refl
       kinds LeftPattern o x s n = refl

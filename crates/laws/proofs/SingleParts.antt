@@ -37,6 +37,8 @@ use Rattle.lines.proofs.load_element.Kinds as lines-load-element-kinds
 use Rattle.lines.proofs.load_element.Reads as lines-load-element
 use Rattle.lines.proofs.vector.Kinds as lines-vector-kinds
 use Rattle.lines.proofs.vector.Reads as lines-vector
+use Rattle.control.proofs.answers.U32FromAnswer.from.Kinds as control-number-kinds
+use Rattle.control.proofs.answers.U32FromAnswer.from.Reads as control-number
 use Rattle.control.proofs.well_placed.Kinds as control-well-placed-kinds
 use Rattle.control.proofs.well_placed.Reads as control-well-placed
 use Rattle.machine.proofs.Machine.run.Kinds as machine-run-kinds
@@ -121,6 +123,9 @@ one_lines-load_element κs a x y s t p q = p ∙ sym q
 
 pub one_lines-vector : OneResult 1 lines-vector-kinds.ps lines-vector-kinds.r lines-vector.Post
 one_lines-vector κs a x y s t p q = p ∙ sym q
+
+pub one_control-number : OneResult 0 control-number-kinds.ps control-number-kinds.r control-number.Post
+one_control-number κs a x y s t p q = p ∙ sym q
 
 pub one_control-well_placed : OneResult 0 control-well-placed-kinds.ps control-well-placed-kinds.r control-well-placed.Post
 one_control-well_placed κs a x y s t p q = p ∙ sym q

@@ -61,10 +61,11 @@ pub fn steps(
             base,
             length: mem.len(),
         };
-        match control(w, g, memory) {
-            Err(answer) => return stopped(answer, count, at, f),
-            Ok(order) => f = effect(order, w, v, f, mem),
+        let order = control(w, g, memory);
+        if let Err(answer) = order {
+            return stopped(answer, count, at, f);
         }
+        f = effect(order, w, v, f, mem);
     }
     let at = place + allowance;
     if at as usize == n {

@@ -1,4 +1,4 @@
--- `compute::compute` meets its contract: where an instruction has no marks, what it left is what `computed` says of its operation. Where it has, and where a register
+-- `compute::chosen` meets its contract: where an instruction has no marks, what it left is what `computed` says of its operation. Where it has, and where a register
 -- is copied, the check finds that alone.
 -- Assumes nothing.
 use mathlib.Core.Path.{refl}
@@ -6,7 +6,7 @@ use Rattle.lanes.specs.declared.Op.TheVariants as lane
 use Rattle.lanes.specs.declared.Size.TheVariants.{Byte, Half, Word}
 use Rattle.compute.specs.Computed.{computed}
 use Rattle.compute.proofs.Carried.{carried_bytes, carried_bare}
-use Rattle.compute.proofs.compute.Goals as goal
+use Rattle.compute.proofs.chosen.Goals as goal
 
 pub returns-in-Byte : goal.returns-in-Byte
 unfolding computed
