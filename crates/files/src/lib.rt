@@ -14,7 +14,7 @@ use std::io::{Cursor, ErrorKind, Read, Write};
 use std::random::RandomSource;
 use std::rt::Files;
 use std::{fmt, fs, io, str};
-use texts::Hex;
+use texts::add_hex;
 
 // Why a file is not read or not written.
 #[derive(Debug, Drop)]
@@ -164,7 +164,9 @@ fn put_beside<R: Files>(rt: &R, part: &str, path: &str, bytes: &[u8]) -> io::Res
 fn part_name(rt: &impl RandomSource, path: &str, alloc: Global) -> io::Result<String> {
     let mut random = [0u8; 4];
     let _ = rt.fill_bytes(&mut random);
-    Ok(format!(in alloc; "{path}.{}.part", Hex(&random))?)
+    let mut digits = [0u8; 8];
+    add_hex(&mut digits, 0, &random);
+    Ok(format!(in alloc; "{path}.{}.part", name_of(&digits)?)?)
 }
 
 // Writes a file beside the one that is meant and renames it, so that it is there whole or is as it was.

@@ -12,8 +12,18 @@ use Rattle.lines.proofs.store_element.Kinds as lines-store-element-kinds
 use Rattle.lines.proofs.store_element.Reads as lines-store-element
 use Rattle.lines.proofs.set_vector.Kinds as lines-set-vector-kinds
 use Rattle.lines.proofs.set_vector.Reads as lines-set-vector
+use Rattle.texts.proofs.add.Kinds as texts-add-kinds
+use Rattle.texts.proofs.add.Reads as texts-add
+use Rattle.texts.proofs.add_hex.Kinds as texts-add-hex-kinds
+use Rattle.texts.proofs.add_hex.Reads as texts-add-hex
 use Rattle.texts.proofs.put_words.Kinds as texts-put-words-kinds
 use Rattle.texts.proofs.put_words.Reads as texts-put-words
+use Rattle.texts.proofs.ReportLine.put.Kinds as texts-report-line-kinds
+use Rattle.texts.proofs.ReportLine.put.Reads as texts-report-line
+use Rattle.texts.proofs.VectorLine.put.Kinds as texts-vector-line-kinds
+use Rattle.texts.proofs.VectorLine.put.Reads as texts-vector-line
+use Rattle.texts.proofs.GeneralLine.put.Kinds as texts-general-line-kinds
+use Rattle.texts.proofs.GeneralLine.put.Reads as texts-general-line
 use Rattle.reading.proofs.words.Kinds as reading-words-kinds
 use Rattle.reading.proofs.words.Reads as reading-words
 use Rattle.states.proofs.state_of.Kinds as states-state-of-kinds
@@ -36,10 +46,14 @@ use Rattle.machine.specs.declared.walk.Report.{Report}
 use Rattle.machine.specs.declared.Machine.{Machine}
 use Rattle.machine.specs.Runs.{Out, Gives}
 use Rattle.reading.specs.Words.{Fills}
+use Rattle.texts.specs.Writing.{Adds}
 use Rattle.laws.specs.Single.{OneLeft, left_of}
 use Rattle.laws.proofs.Outcome.{one_outcome, one_general}
 
 -- what the predicates of the contracts speak of
+abbrev text_of : {before : List ℕ} {at : ℕ} {text : List ℕ} {result : ℕ} {after : List ℕ} → Adds before at text result after → List ℕ
+text_of {after = after} p = after
+
 abbrev words_of : {bytes before : List ℕ} {r : Option ℕ} {after : List ℕ} → Fills bytes before r after → List ℕ
 words_of {after = after} p = after
 
@@ -62,8 +76,23 @@ left_lines-store_element κs a x y s t p q = p ∙ sym q
 pub left_lines-set_vector : OneLeft 1 lines-set-vector-kinds.ps lines-set-vector-kinds.r lines-set-vector.Post (List ℕ) (λ κs a x s p. left_of p)
 left_lines-set_vector κs a x y s t p q = p ∙ sym q
 
-pub left_texts-put_words : OneLeft 2 texts-put-words-kinds.ps texts-put-words-kinds.r texts-put-words.Post (List ℕ) (λ κs a x s p. left_of p)
-left_texts-put_words κs a x y s t p q = p ∙ sym q
+pub left_texts-add : OneLeft 2 texts-add-kinds.ps texts-add-kinds.r texts-add.Post (List ℕ) (λ κs a x s p. text_of p.0)
+left_texts-add κs a x y s t p q = p.0.buffer ∙ sym q.0.buffer
+
+pub left_texts-add_hex : OneLeft 2 texts-add-hex-kinds.ps texts-add-hex-kinds.r texts-add-hex.Post (List ℕ) (λ κs a x s p. text_of p)
+left_texts-add_hex κs a x y s t p q = p.buffer ∙ sym q.buffer
+
+pub left_texts-put_words : OneLeft 2 texts-put-words-kinds.ps texts-put-words-kinds.r texts-put-words.Post (List ℕ) (λ κs a x s p. left_of p.0)
+left_texts-put_words κs a x y s t p q = p.0 ∙ sym q.0
+
+pub left_texts-report_line : OneLeft 1 texts-report-line-kinds.ps texts-report-line-kinds.r texts-report-line.Post (List ℕ) (λ κs a x s p. text_of p.0)
+left_texts-report_line κs a x y s t p q = p.0.buffer ∙ sym q.0.buffer
+
+pub left_texts-vector_line : OneLeft 1 texts-vector-line-kinds.ps texts-vector-line-kinds.r texts-vector-line.Post (List ℕ) (λ κs a x s p. text_of p.0)
+left_texts-vector_line κs a x y s t p q = p.0.buffer ∙ sym q.0.buffer
+
+pub left_texts-general_line : OneLeft 1 texts-general-line-kinds.ps texts-general-line-kinds.r texts-general-line.Post (List ℕ) (λ κs a x s p. text_of p.0)
+left_texts-general_line κs a x y s t p q = p.0.buffer ∙ sym q.0.buffer
 
 pub left_reading-words : OneLeft 2 reading-words-kinds.ps reading-words-kinds.r reading-words.Post (List ℕ) (λ κs a x s p. words_of p.0)
 left_reading-words κs a x y s t p q = p.0.code ∙ sym q.0.code

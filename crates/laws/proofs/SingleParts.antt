@@ -45,6 +45,12 @@ use Rattle.machine.proofs.Machine.run.Kinds as machine-run-kinds
 use Rattle.machine.proofs.Machine.run.Reads as machine-run
 use Rattle.machine.proofs.Machine.step.Kinds as machine-step-kinds
 use Rattle.machine.proofs.Machine.step.Reads as machine-step
+use Rattle.texts.proofs.ReportLine.put.Kinds as texts-report-line-kinds
+use Rattle.texts.proofs.ReportLine.put.Reads as texts-report-line
+use Rattle.texts.proofs.VectorLine.put.Kinds as texts-vector-line-kinds
+use Rattle.texts.proofs.VectorLine.put.Reads as texts-vector-line
+use Rattle.texts.proofs.GeneralLine.put.Kinds as texts-general-line-kinds
+use Rattle.texts.proofs.GeneralLine.put.Reads as texts-general-line
 use Rattle.control.proofs.control.Kinds as control-control-kinds
 use Rattle.control.proofs.control.Reads as control-control
 use Rattle.flags.proofs.marked.Kinds as flags-marked-kinds
@@ -60,6 +66,10 @@ use Rattle.flags.proofs.from_status.Reads as flags-from-status
 use Rattle.effects.proofs.effect.Kinds as effects-effect-kinds
 use Rattle.effects.proofs.effect.Reads as effects-effect
 use Rattle.laws.proofs.Outcome.{one_outcome}
+use Rattle.texts.proofs.add.Kinds as texts-add-kinds
+use Rattle.texts.proofs.add.Reads as texts-add
+use Rattle.texts.proofs.add_hex.Kinds as texts-add-hex-kinds
+use Rattle.texts.proofs.add_hex.Reads as texts-add-hex
 use Rattle.reading.proofs.words.Kinds as reading-words-kinds
 use Rattle.reading.proofs.words.Reads as reading-words
 use Rattle.reading.proofs.numbers.read.Kinds as reading-read-kinds
@@ -136,6 +146,15 @@ one_machine-run κs a x y s t p q = same_ran x y (one_outcome p q).0 (one_outcom
 pub one_machine-step : OneResult 2 machine-step-kinds.ps machine-step-kinds.r machine-step.Post
 one_machine-step κs a x y s t p q = same_ran x y (one_outcome p q).0 (one_outcome p q).1
 
+pub one_texts-report_line : OneResult 1 texts-report-line-kinds.ps texts-report-line-kinds.r texts-report-line.Post
+one_texts-report_line κs a x y s t p q = p.0.end ∙ sym q.0.end
+
+pub one_texts-vector_line : OneResult 1 texts-vector-line-kinds.ps texts-vector-line-kinds.r texts-vector-line.Post
+one_texts-vector_line κs a x y s t p q = p.0.end ∙ sym q.0.end
+
+pub one_texts-general_line : OneResult 1 texts-general-line-kinds.ps texts-general-line-kinds.r texts-general-line.Post
+one_texts-general_line κs a x y s t p q = p.0.end ∙ sym q.0.end
+
 pub one_control-control : OneResult 1 control-control-kinds.ps control-control-kinds.r control-control.Post
 one_control-control κs a x y s t p q = p.order ∙ sym q.order
 
@@ -156,6 +175,12 @@ one_flags-from_status κs a x y s t p q = p ∙ sym q
 
 pub one_effects-effect : OneResult 2 effects-effect-kinds.ps effects-effect-kinds.r effects-effect.Post
 one_effects-effect κs a x y s t p q = ap (λ (h : Held). h.flags) (p ∙ sym q)
+
+pub one_texts-add : OneResult 2 texts-add-kinds.ps texts-add-kinds.r texts-add.Post
+one_texts-add κs a x y s t p q = p.0.end ∙ sym q.0.end
+
+pub one_texts-add_hex : OneResult 2 texts-add-hex-kinds.ps texts-add-hex-kinds.r texts-add-hex.Post
+one_texts-add_hex κs a x y s t p q = p.end ∙ sym q.end
 
 pub one_reading-words : OneResult 2 reading-words-kinds.ps reading-words-kinds.r reading-words.Post
 one_reading-words κs a x y s t p q = p.0.count ∙ sym q.0.count

@@ -1,6 +1,5 @@
 // A run from a machine of zeros, and what it leaves.
 use std::array;
-use texts::Hex;
 
 // The bytes from 0 on.
 pub fn counted<const N: usize>() -> [u8; N] {
@@ -20,7 +19,8 @@ pub fn ramp() -> [u8; 64] {
 fn memory(rt: &impl Print, mem: &[u8]) {
     let (lines, _) = mem.as_chunks::<16>();
     for (n, line) in lines.iter().enumerate() {
-        let _ = println!(rt; "m{} {}", 16 * n, Hex(line));
+        let _ = print!(rt; "m{}", 16 * n);
+        hexlines::show(rt, b"", *line);
     }
 }
 

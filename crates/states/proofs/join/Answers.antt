@@ -22,6 +22,6 @@ returns c =
     let n3 : length (a.v ++ a.x ++ w ++ a.condition) ≡ length a.out.now = omega (arith, length-append (a.v ++ a.x ++ w) a.condition) in
     let e1 = next a.out.now 0 512 [] a.v refl refl nv (omega arith) c.copy_from_slice.ensures.after in
     let e2 = next a.out.now 512 16 a.v a.x e1 nv nx (omega arith) c.copy_from_slice-2.ensures.after in
-    let e3 = next a.out.now 528 128 (a.v ++ a.x) w e2 n1 nw (omega arith) c.put_words.ensures in
+    let e3 = next a.out.now 528 128 (a.v ++ a.x) w e2 n1 nw (omega arith) (c.put_words.ensures.whole (omega arith)) in
     next a.out.now 656 4 (a.v ++ a.x ++ w) a.condition e3 n2 nc (omega arith) c.copy_from_slice-3.ensures.after
     ∙ put_all a.out.now (a.v ++ a.x ++ w ++ a.condition) n3

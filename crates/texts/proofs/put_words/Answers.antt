@@ -4,7 +4,7 @@ use lib.Seq.{length-take-le, take_all}
 use Rattle.lines.specs.Lines.{put}
 use Rattle.lines.proofs.Copying.{over}
 use Rattle.texts.specs.Texts.{word_bytes, bytes_of}
-use Rattle.texts.proofs.Digits.{word_is}
+use Rattle.texts.proofs.Numbers.{word_is}
 use Rattle.texts.proofs.Joined.{put-append, put_all, words_more, words_long}
 use Rattle.texts.proofs.put_words.Goals as goal
 
@@ -31,8 +31,11 @@ loop-i-init c = refl
 pub returns : goal.returns
 returns c =
     let ws = c.args.words.now in
+    let d = c.args.out.now in
     let i : c.loop-i.i ≡ length ws = omega arith in
+    let start =
     c.loop-i.invariant
-    ∙ ap (λ (k : ℕ). put c.args.out.now 0 (word_bytes (take k ws))) i
-    ∙ ap (λ (x : List ℕ). put c.args.out.now 0 (word_bytes x)) (take_all (length ws) ws (omega arith))
-    ∙ put_all c.args.out.now (word_bytes ws) (words_long ws ∙ sym c.requires)
+    ∙ ap (λ (k : ℕ). put d 0 (word_bytes (take k ws))) i
+    ∙ ap (λ (x : List ℕ). put d 0 (word_bytes x)) (take_all (length ws) ws (omega arith))
+    in
+    record { start = start; whole = λ e. start ∙ put_all d (word_bytes ws) (words_long ws ∙ sym e) }

@@ -2,7 +2,7 @@
 use Rattle.std.proofs.Common.{rules, refl, sym, arith, ap, ◌∙◌, ◌++◌, List, ℕ, slice_index_or, take}
 use Rattle.std.proofs.Output.{has_written_append, has_written_of_eq}
 use Rattle.texts.specs.Texts.{hex_of}
-use Rattle.texts.proofs.Digits.{hex_is}
+use Rattle.texts.proofs.Numbers.{hex_is}
 use Rattle.texts.proofs.Joined.{hex_more}
 use Rattle.texts.proofs.HexDisplay.fmt.Goals as goal
 
