@@ -10,13 +10,17 @@ use std::rt::Env;
 // The longest argument that is taken; std fills a buffer that it is lent.
 const LONGEST: usize = 4096;
 
-// The arguments in their order, the program's own name first; None for one that is too long.
+// The most arguments that are looked at: the program's own name, the kernel, and eight more. There are seven names, so one of eight is refused,
+// and those behind it change nothing.
+const MOST: usize = 10;
+
+// The arguments in their order, the program's own name first, and no more than MOST; None for one that is too long.
 pub type Args = Vec<Option<Vec<u8>>>;
 
 pub fn args(rt: &impl Env, alloc: Global) -> io::Result<Args> {
     let mut args = Vec::new(alloc);
     let mut buf = [0u8; LONGEST];
-    for i in 0..usize::MAX {
+    for i in 0..MOST {
         match rt.arg(i, &mut buf) {
             Ok(n) => args.push(Some(buf[..n].to_vec(alloc)?))?,
             Err(FillError::NotPresent) => break,

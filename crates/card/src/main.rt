@@ -6,7 +6,7 @@ mod help;
 mod loading;
 mod refusal;
 
-use files::{Reason, complain};
+use files::{Reason, complain_of};
 use given::{Given, args};
 use refusal::{Fault, Refusal};
 use std::alloc::Global;
@@ -72,7 +72,7 @@ fn main(rt: HostRuntime) {
     let args = match args(&rt, alloc) {
         Ok(args) => args,
         Err(error) => {
-            complain(&err, b"arguments", &Reason(&error));
+            complain_of(&err, b"arguments", &Reason(&error));
             return;
         }
     };

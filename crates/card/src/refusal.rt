@@ -1,11 +1,11 @@
 // Why card refuses, and how it is told.
-use files::{FileError, complain};
+use files::{FileError, complain_of};
 use reading::numbers::NumberError;
 use std::fmt;
 use std::fmt::Display;
 
 // What is wrong with an argument, or with what it names.
-#[derive(Debug, Drop)]
+#[derive(Debug, Clone, Copy)]
 pub enum Fault {
     NotNamed,
     UnknownName,
@@ -32,7 +32,7 @@ impl Display for Fault {
     }
 }
 
-#[derive(Debug, Drop)]
+#[derive(Debug, Clone, Copy)]
 pub enum Refusal<'a> {
     // The argument at this place is longer than any that is taken.
     LongArgument(usize),
@@ -46,7 +46,7 @@ impl Refusal<'_> {
             Refusal::LongArgument(place) => {
                 let _ = println!(err; "argument {place}: too long");
             }
-            Refusal::Of(what, fault) => complain(err, what, fault),
+            Refusal::Of(what, fault) => complain_of(err, what, fault),
         }
     }
 }

@@ -1,7 +1,7 @@
 // Document 01's printing program: code from standard input, a run from a machine of zeros with no memory, and the lines that it leaves.
 #![tactic(auto)]
 
-use files::{Reason, complain, read_all, say};
+use files::{Reason, complain_of, read_all, say};
 use std::alloc::Global;
 use std::io;
 
@@ -26,7 +26,7 @@ fn main(rt: HostRuntime) {
     let bytes = match input(&rt, rt.alloc()) {
         Ok(bytes) => bytes,
         Err(error) => {
-            complain(&err, b"standard input", &Reason(&error));
+            complain_of(&err, b"standard input", &Reason(&error));
             return;
         }
     };

@@ -1,7 +1,8 @@
 // Files, whole; and what is told on standard error where something is wrong: a line that names the file or the argument, and says why.
 #![tactic(auto)]
 
-ghost use Rattle.std.specs.Prelude.{◌≡◌, ◌≤◌, ◌<◌, IsUtf8, IsErr, IsErrOf, IfOk, MatchResult, length, take, vec_len};
+ghost use Rattle.std.specs.Prelude.{◌≡◌, ◌≤◌, ◌<◌, ◌++◌, ℕ, List, IsUtf8, IsErr, IsErrOf, IfOk, MatchResult, length, take, codes, vec_len, string_bytes};
+ghost use Rattle.texts.specs.Texts.{hex_of};
 ghost use Rattle.files.specs.declared.FileError.TheVariants.{NameTooLong};
 ghost use Rattle.std.specs.Io.{ReadsAtMost};
 ghost use Rattle.std.specs.Io.KnownBytes.{Consumes, IsAtEnd};
@@ -14,10 +15,10 @@ use std::io::{Cursor, ErrorKind, Read, Write};
 use std::random::RandomSource;
 use std::rt::Files;
 use std::{fmt, fs, io, str};
-use texts::add_hex;
+use texts::Hex;
 
 // Why a file is not read or not written.
-#[derive(Debug, Drop)]
+#[derive(Debug, Clone, Copy)]
 pub enum FileError {
     Io(io::Error),
     // It has more bytes than the most that are taken.
@@ -83,14 +84,24 @@ fn fill<R: Read>(reader: &mut R, buf: &mut [u8]) -> io::Result<usize>
     Ok(done)
 }
 
-// Reads to the end of the input, and no more than limit bytes.
+// The first room for what is read, and the least by which it grows: more than the programs take at once, so that they read into one piece.
+const FIRST_ROOM: usize = 131072;
+
+// Reads to the end of the input, and no more than limit bytes. The room for them grows as the input fills it, so that a short input costs
+// little under any limit.
 pub fn read_all<R: Read>(reader: &mut R, limit: usize, alloc: Global) -> io::Result<Vec<u8>>
     ensures within { IfOk result (λ bytes. vec_len bytes ≤ limit) }
     ensures given { IfOk result (λ bytes. Consumes (R.remaining reader.old) (R.remaining reader.new) bytes.items) }
     ensures end { IfOk result (λ bytes. vec_len bytes < limit → IsAtEnd (R.remaining reader.new)) }
 {
-    let mut bytes = vec![in alloc; 0; limit]?;
-    let n = fill(reader, &mut bytes)?;
+    let mut bytes = Vec::new(alloc);
+    let mut n = 0;
+    while n == bytes.len() && n < limit {
+        let room = (limit - n).min(n.max(FIRST_ROOM));
+        bytes.reserve_exact(room)?;
+        bytes.resize(n + room, 0)?;
+        n += fill(reader, &mut bytes[n..])?;
+    }
     bytes.truncate(n);
     Ok(bytes)
 }
@@ -100,8 +111,16 @@ pub fn say(to: &impl Print, bytes: &[u8]) {
     let _ = to.write_all(bytes);
 }
 
-// A line on standard error: what it is about, and what is wrong with it.
-pub fn complain(err: &impl Print, what: &[u8], wrong: &impl Display) {
+// A line on standard error: what it is about, and what is wrong with it, in bytes that need not be text.
+pub fn complain(err: &impl Print, what: &[u8], wrong: &[u8]) {
+    say(err, what);
+    say(err, b": ");
+    say(err, wrong);
+    say(err, b"\n");
+}
+
+// The same line, where a value says what is wrong.
+pub fn complain_of(err: &impl Print, what: &[u8], wrong: &impl Display) {
     say(err, what);
     say(err, b": ");
     let _ = err.println(wrong);
@@ -161,12 +180,12 @@ fn put_beside<R: Files>(rt: &R, part: &str, path: &str, bytes: &[u8]) -> io::Res
 }
 
 // The name of the file that is written before it takes its own name, with eight random digits.
-fn part_name(rt: &impl RandomSource, path: &str, alloc: Global) -> io::Result<String> {
+fn part_name(rt: &impl RandomSource, path: &str, alloc: Global) -> io::Result<String>
+    ensures beside { IfOk result (λ name. (r : List ℕ) × (length r ≡ 4) × (string_bytes name ≡ path.now ++ (codes "." ++ hex_of r ++ codes ".part"))) }
+{
     let mut random = [0u8; 4];
     let _ = rt.fill_bytes(&mut random);
-    let mut digits = [0u8; 8];
-    add_hex(&mut digits, 0, &random);
-    Ok(format!(in alloc; "{path}.{}.part", name_of(&digits)?)?)
+    Ok(format!(in alloc; "{path}.{}.part", Hex(&random))?)
 }
 
 // Writes a file beside the one that is meant and renames it, so that it is there whole or is as it was.
@@ -200,6 +219,25 @@ mod tests {
         assert_eq!(rt; start.as_slice(), b"kern".as_slice());
         let rest = read_all(&mut input, 4, rt.alloc())?;
         assert_eq!(rt; rest.as_slice(), b"el".as_slice());
+        Ok(())
+    }
+
+    #[test]
+    fn reads_a_short_input_under_any_limit(rt: HostRuntime) -> Result<(), Fail> {
+        let mut input = Cursor::new(*b"kernel");
+        let all = read_all(&mut input, usize::MAX, rt.alloc())?;
+        assert_eq!(rt; all.as_slice(), b"kernel".as_slice());
+        Ok(())
+    }
+
+    // The room grows from one piece to two, and to four.
+    #[test]
+    fn reads_more_than_the_first_room(rt: HostRuntime) -> Result<(), Fail> {
+        let mut long = vec![in rt.alloc(); 1; 2 * FIRST_ROOM]?;
+        long.resize(3 * FIRST_ROOM, 2)?;
+        let mut input = Cursor::new(long.as_slice());
+        let all = read_all(&mut input, usize::MAX, rt.alloc())?;
+        assert_eq!(rt; all.as_slice(), long.as_slice());
         Ok(())
     }
 }

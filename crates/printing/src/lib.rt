@@ -1,7 +1,7 @@
 // What a run left, on standard output: the lines of document 01, and one for each general register.
 #![tactic(auto)]
 
-use files::{Reason, complain};
+use files::{Reason, complain_of};
 use lanes::none_true;
 use machine::{Machine, Report};
 use texts::{GeneralLine, ReportLine, VectorLine};
@@ -12,7 +12,7 @@ use texts::{GeneralLine, ReportLine, VectorLine};
 // A line that cannot be written is told on standard error.
 fn print(rt: &impl Print, err: &impl Print, line: &[u8]) {
     if let Err(error) = rt.write_all(line) {
-        complain(err, b"standard output", &Reason(&error));
+        complain_of(err, b"standard output", &Reason(&error));
     }
 }
 
