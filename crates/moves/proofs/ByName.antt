@@ -2,7 +2,7 @@
 use Rattle.std.proofs.Common.{◌≡◌, ℕ, suc, ◌+◌, ◌-◌, ◌*◌, ◌/◌, ◌%◌, ◌<◌, ◌≤◌, zero, Bool, true, false, cond, ltb, List, [], ◌∷◌, map, length, bit_and, refl, sym, subst, ◌∙◌, arith, ltb-true, ltb-false}
 use Rattle.std.proofs.lemmas.Bool.{lt-leb}
 use Rattle.std.proofs.lemmas.Nat.{and_le_r, and_mask}
-use Rattle.std.proofs.lemmas.Simd.{SwzOk-from_below, swz_l, zip2_splat, zip2_splat_left, pick_l_whole, pick_l-range_with_len, get_or-chunk, length-chunk}
+use Rattle.std.proofs.lemmas.Simd.{SwzOk-from_below, swz_l, zip2_splat, pick_l_whole, pick_l-range_with_len, get_or-chunk, length-chunk}
 use Rattle.std.proofs.lemmas.List.FromFn.{get_or-map-range_with_len, length-map-range_with_len}
 use Rattle.std.proofs.Math.Nat.{zero-add}
 use Rattle.std.specs.List.{range_with_len}
@@ -64,19 +64,6 @@ module _ (a b : List ℕ) where
   permuted-is c e =
       subst (λ (u : List ℕ). sel_l (map (top 7) (zip2 less (zip2 bit_and u (replicate 16 31)) (replicate 16 16))) (map (λ x. get_or a (bit_and x 15) 0) u) (map (λ x. get_or b (bit_and x 15) 0) u) ≡ permuted a b u) (pick_l_whole 0 c 16 e)
       (each (pick_l 0 c (range_with_len 0 16)))
-
--- bytes from a place k on
-module _ (v : List ℕ) (k : ℕ) where
-  from_place : (at : List ℕ) → map (λ x. get_or v (bit_and x 15) 0) (map (λ i. (k + i) % 256) at) ≡ map (λ i. get_or v ((k + i) % 16) 0) at
-  from_place [] = refl
-  from_place (i ∷ at) =
-      let e : (k + i) % 256 % 16 ≡ (k + i) % 16 = omega arith in
-      let p = and_mask ((k + i) % 256) 4 ∙ e in
-      let r = from_place at in
-      λ t. get_or v (p t) 0 ∷ r t
-
-  pub repeated-is : (at : List ℕ) → length at ≡ 16 → map (λ x. get_or v (bit_and x 15) 0) (zip2 (λ a b. (a + b) % 256) (replicate 16 k) at) ≡ map (λ i. get_or v ((k + i) % 16) 0) at
-  repeated-is at e = rw (zip2_splat_left (λ a b. (a + b) % 256) k 16 at e) (from_place at)
 
 -- sixteen entries of a table, from k on, where entry j of n is f j
 module _ (f : ℕ → ℕ) (n k : ℕ) (room : k + 16 ≤ n) where

@@ -1,8 +1,7 @@
 // Merges and splats: lanes that are chosen and not changed. `shuffle` takes its places as a constant, so each merge has its own list of them.
-ghost use Rattle.std.specs.Prelude.{◌≡◌, ◌+◌, ◌%◌, map, slice_index};
+ghost use Rattle.std.specs.Prelude.{◌≡◌};
 ghost use Rattle.moves.specs.Chosen.{merged_high, merged_low, splat};
 
-use crate::permutes::named;
 use lanes::Size;
 use std::simd::prelude::*;
 
@@ -69,38 +68,29 @@ pub fn vmrglw(a: [u8; 16], b: [u8; 16]) -> [u8; 16]
     v.to_array()
 }
 
-// Bytes of b from byte k on: `at` has the place of each byte of the result in its lane.
-#[inline(always)]
-fn repeated(b: [u8; 16], k: u8, at: [u8; 16]) -> [u8; 16]
-    ensures { result ≡ map (λ i. slice_index b ((k + i) % 16)) at }
-{
-    let v = u8x16::from_array(b);
-    named(v, u8x16::splat(k) + u8x16::from_array(at)).to_array()
-}
-
-// Each is one call; what differs is the lane's size, and the names are the instructions'.
+// Each reads one lane and repeats it; what differs is the lane's size, and the names are the instructions'.
 pub fn vspltb(b: [u8; 16], lane: u8) -> [u8; 16]
     ensures { result ≡ splat Size.Byte b lane }
 {
-    repeated(b, lane % 16, [0; 16])
+    let k = (lane % 16) as usize;
+    u8x16::splat(b[k]).to_array()
 }
 
 pub fn vsplth(b: [u8; 16], lane: u8) -> [u8; 16]
     ensures { result ≡ splat Size.Half b lane }
 {
-    repeated(
-        b,
-        lane % 8 * 2,
-        [0, 1, 0, 1, 0, 1, 0, 1, 0, 1, 0, 1, 0, 1, 0, 1],
-    )
+    let k = (lane % 8 * 2) as usize;
+    u16x8::splat(u16::from_le_bytes([b[k], b[k + 1]]))
+        .to_le_bytes()
+        .to_array()
 }
 
 pub fn vspltw(b: [u8; 16], lane: u8) -> [u8; 16]
     ensures { result ≡ splat Size.Word b lane }
 {
-    repeated(
-        b,
-        lane % 4 * 4,
-        [0, 1, 2, 3, 0, 1, 2, 3, 0, 1, 2, 3, 0, 1, 2, 3],
-    )
+    let k = (lane % 4 * 4) as usize;
+    let (x, y, z, t) = (b[k], b[k + 1], b[k + 2], b[k + 3]);
+    let v = u8x16::from_array([x, y, z, t, 0, 0, 0, 0, 0, 0, 0, 0, 0, 0, 0, 0]);
+    v.swizzle([0, 1, 2, 3, 0, 1, 2, 3, 0, 1, 2, 3, 0, 1, 2, 3])
+        .to_array()
 }

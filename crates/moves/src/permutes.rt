@@ -6,7 +6,7 @@ use std::simd::prelude::*;
 
 // The bytes of v that the low four bits of k name.
 #[inline(always)]
-pub(crate) fn named(v: u8x16, k: u8x16) -> u8x16
+fn named(v: u8x16, k: u8x16) -> u8x16
     ensures { result ≡ map (λ x. slice_index v (bit_and x 15)) k }
 {
     v.swizzle_dyn(k & u8x16::splat(15))
