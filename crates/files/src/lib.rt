@@ -65,9 +65,9 @@ impl Display for Reason<'_> {
     }
 }
 
-// Reads to the end of the input or of buf, and answers how many bytes there were. A read that a signal interrupts is told as an error,
-// which std's read_to_end would take up again.
-fn fill<R: Read>(reader: &mut R, buf: &mut [u8]) -> io::Result<usize>
+// Reads to the end of the input or of buf, and answers how many bytes there were; they stand at the front of buf. Where a read fails, buf may
+// hold what was read before. A read that a signal interrupts is told as an error, which std's read_to_end would take up again.
+pub fn fill<R: Read>(reader: &mut R, buf: &mut [u8]) -> io::Result<usize>
     ensures count { ReadsAtMost result buf.new }
     ensures given { IfOk result (λ n. Consumes (R.remaining reader.old) (R.remaining reader.new) (take n buf.new)) }
     ensures end { IfOk result (λ n. n < length buf.new → IsAtEnd (R.remaining reader.new)) }
@@ -84,11 +84,12 @@ fn fill<R: Read>(reader: &mut R, buf: &mut [u8]) -> io::Result<usize>
     Ok(done)
 }
 
-// The first room for what is read, and the least by which it grows: more than the programs take at once, so that they read into one piece.
+// The first room for what is read, and, but for the last time, the least by which it grows: more than the programs take at once, so that they
+// read into one piece.
 const FIRST_ROOM: usize = 131072;
 
 // Reads to the end of the input, and no more than limit bytes. The room for them grows as the input fills it, so that a short input costs
-// little under any limit.
+// little under any limit; whoever wants one piece of memory from the start lends it to `fill`.
 pub fn read_all<R: Read>(reader: &mut R, limit: usize, alloc: Global) -> io::Result<Vec<u8>>
     ensures within { IfOk result (λ bytes. vec_len bytes ≤ limit) }
     ensures given { IfOk result (λ bytes. Consumes (R.remaining reader.old) (R.remaining reader.new) bytes.items) }
@@ -227,6 +228,19 @@ mod tests {
         let mut input = Cursor::new(*b"kernel");
         let all = read_all(&mut input, usize::MAX, rt.alloc())?;
         assert_eq!(rt; all.as_slice(), b"kernel".as_slice());
+        Ok(())
+    }
+
+    #[test]
+    fn fills_a_lent_buffer(rt: HostRuntime) -> Result<(), Fail> {
+        let mut input = Cursor::new(*b"kernel");
+        let mut four = [0u8; 4];
+        let first = fill(&mut input, &mut four)?;
+        assert_eq!(rt; first, 4);
+        assert_eq!(rt; four.as_slice(), b"kern".as_slice());
+        let rest = fill(&mut input, &mut four)?;
+        assert_eq!(rt; rest, 2);
+        assert_eq!(rt; four[..rest], b"el"[..]);
         Ok(())
     }
 
