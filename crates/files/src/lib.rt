@@ -1,7 +1,7 @@
 // Files, whole; and what is told on standard error where something is wrong: a line that names the file or the argument, and says why.
 #![tactic(auto)]
 
-ghost use Rattle.std.specs.Prelude.{◌≡◌, ◌≤◌, ◌<◌, ◌++◌, ℕ, List, IsUtf8, IsErr, IsErrOf, IfOk, MatchResult, length, take, codes, vec_len, string_bytes};
+ghost use Rattle.std.specs.Prelude.{◌≡◌, ◌≤◌, ◌<◌, ◌++◌, ℕ, List, IsUtf8, IsErr, IsErrOf, IfOk, OnErr, MatchResult, length, take, codes, vec_len, string_bytes};
 ghost use Rattle.texts.specs.Texts.{hex_of};
 ghost use Rattle.files.specs.declared.FileError.TheVariants.{NameTooLong};
 ghost use Rattle.std.specs.Io.{ReadsAtMost};
@@ -65,13 +65,14 @@ impl Display for Reason<'_> {
     }
 }
 
-// Reads to the end of the input or of buf, and answers how many bytes there were; they stand at the front of buf. Where a read fails, buf may
-// hold what was read before. A read that a signal interrupts is told as an error, which std's read_to_end would take up again.
+// Reads to the end of the input or of buf, and answers how many bytes there were; they stand at the front of buf, as what was read before
+// does where a read fails. A read that a signal interrupts is told as an error, which std's read_to_end would take up again.
 pub fn fill<R: Read>(reader: &mut R, buf: &mut [u8]) -> io::Result<usize>
     ensures count { ReadsAtMost result buf.new }
     ensures given { IfOk result (λ n. Consumes (R.remaining reader.old) (R.remaining reader.new) (take n buf.new)) }
     ensures end { IfOk result (λ n. n < length buf.new → IsAtEnd (R.remaining reader.new)) }
     ensures kept { length buf.new ≡ length buf.old }
+    ensures none_lost { OnErr result ((n : ℕ) × (n ≤ length buf.new) × Consumes (R.remaining reader.old) (R.remaining reader.new) (take n buf.new)) }
 {
     let mut done = 0;
     while done < buf.len() {
@@ -241,6 +242,32 @@ mod tests {
         let rest = fill(&mut input, &mut four)?;
         assert_eq!(rt; rest, 2);
         assert_eq!(rt; four[..rest], b"el"[..]);
+        Ok(())
+    }
+
+    // Gives one byte, and fails from then on.
+    #[derive(Drop)]
+    struct Failing {
+        given: bool,
+    }
+
+    impl Read for Failing {
+        fn read(&mut self, buf: &mut [u8]) -> io::Result<usize> {
+            if self.given || buf.is_empty() {
+                return Err(io::Error::from(ErrorKind::Other));
+            }
+            self.given = true;
+            buf[0] = 107;
+            Ok(1)
+        }
+    }
+
+    #[test]
+    fn keeps_what_was_read_before_an_error(rt: HostRuntime) -> Result<(), Fail> {
+        let mut input = Failing { given: false };
+        let mut four = [0u8; 4];
+        assert!(rt; fill(&mut input, &mut four).is_err());
+        assert_eq!(rt; four[..1], b"k"[..]);
         Ok(())
     }
 
